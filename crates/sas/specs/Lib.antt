@@ -1,0 +1,4 @@
+pub mod States
+pub mod Actions
+pub mod Sas
+pub mod Tables

@@ -1,0 +1,7 @@
+// SAS+ tasks: the tables that hold one, and the task that they make.
+mod tables;
+
+pub use tables::Condition;
+pub use tables::Operator;
+pub use tables::Reading;
+pub use tables::Variable;

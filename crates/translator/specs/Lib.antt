@@ -1,0 +1,4 @@
+pub mod Lines
+pub mod Numerals
+pub mod Readers
+pub mod Reads

@@ -87,3 +87,8 @@ first-number p = and-then (next-line p) (λ l q. next-number q)
 abbrev pub Tells : {A V : Type 0} → (V → A) → Read A → Result V Fault → Place → Type 0
 Tells f d (Ok v) p = d ≡ Ok (f v, p)
 Tells f d (Err e) p = d ≡ Err e
+
+-- the same where r shows only so much of what d answers
+abbrev pub Finds : {A V : Type 0} → (A → V → Type 0) → Read A → Result V Fault → Place → Type 0
+Finds {A = A} K d (Ok v) p = (a : A) × (d ≡ Ok (a, p)) × K a v
+Finds K d (Err e) p = d ≡ Err e

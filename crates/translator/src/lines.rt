@@ -3,6 +3,7 @@ ghost use mathlib.Core.Path.{_≡_};
 ghost use Prim.Native.Nat.{_+_, _<_, _≤_};
 ghost use lib.ListN.{length, drop};
 ghost use Rattle.std.specs.Options.{Cases};
+ghost use Rattle.std.specs.Vec.{made};
 ghost use Rattle.translator.specs.Lines.{line-length, cut, cut-at};
 ghost use Rattle.translator.specs.Reads.{Tells, next-line, next-part, next-number, next-signed, first-number, line-end, fault-at};
 ghost use Rattle.translator.specs.Reads.{keyword};
@@ -54,7 +55,8 @@ impl<'a> Reader<'a> {
 
     // Goes on to the next line, and answers it without its newline.
     pub(crate) fn next_line(&mut self) -> Result<&'a [u8], Fault>
-        ensures { λ r. ⌜ Tells (λ s. now s) (next-line (place-of (now (self .entry)))) r (place-of (now (self .exit))) ⌝ }
+        ensures tells { λ r. ⌜ Tells (λ s. now s) (next-line (place-of (now (self .entry)))) r (place-of (now (self .exit))) ⌝ }
+        ensures short { λ r. ⌜ made r (λ s. length (now s) ≤ 65536) ⌝ }
     {
         let bytes = self.bytes;
         let start = self.next;

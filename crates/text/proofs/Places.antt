@@ -1,0 +1,64 @@
+-- Pieces in a row, and pieces written one after another. Assumes nothing.
+use mathlib.Core.Path.{_≡_, refl, sym, ap, _∙_}
+use mathlib.Core.List.{List, [], _∷_, _++_, append-assoc}
+use Prim.Native.Nat.{ℕ, _+_, _≤_, _<_}
+use native.Mathlib.Nat.{zero-add, add-zero}
+use native.Mathlib.Omega.{arith}
+use lib.ListN.{length, getD, take, drop, length-append}
+use lib.Seq.{paste}
+use Rattle.std.specs.Joined.{joined}
+use Rattle.std.proofs.shelf.Lists.{append-nil, take-all, take-more, take-append-drop}
+use Rattle.std.proofs.shelf.Edits.{paste-all, paste-paste, length-paste}
+use Rattle.text.specs.Buffer.{placed}
+
+module _ {X : Type 0} (f : X → List ℕ) where
+  pub joined-append : (xs ys : List X) → joined f (xs ++ ys) ≡ joined f xs ++ joined f ys
+  joined-append [] ys = refl
+  joined-append (x ∷ xs) ys = ap (λ l. f x ++ l) (joined-append xs ys) ∙ sym (append-assoc (f x) (joined f xs) (joined f ys))
+
+  pub joined-more : (xs : List X) (i : ℕ) (d : X) → i < length xs → joined f (take (i + 1) xs) ≡ joined f (take i xs) ++ f (getD xs i d)
+  joined-more xs i d h =
+      ap (joined f) (take-more xs i d h) ∙ joined-append (take i xs) (getD xs i d ∷ []) ∙ ap (λ l. joined f (take i xs) ++ l) (append-nil (f (getD xs i d)))
+
+  -- the first pieces are no longer than all of them
+  pub joined-within : (xs : List X) (i : ℕ) → length (joined f (take i xs)) ≤ length (joined f xs)
+  joined-within xs i =
+      let e = ap (λ l. length (joined f l)) (take-append-drop i xs) in
+      let k = ap length (joined-append (take i xs) (drop i xs)) in
+      omega (arith, e, k, length-append (joined f (take i xs)) (joined f (drop i xs)))
+
+pub placed-none : (old : List ℕ) (at : ℕ) → placed old at [] ≡ old
+placed-none old at = rw add-zero (take-append-drop at old)
+
+-- bytes written where others end
+pub placed-placed : (old : List ℕ) (at : ℕ) (a b : List ℕ) → at ≤ length old → placed (placed old at a) (at + length a) b ≡ placed old at (a ++ b)
+placed-placed old at a b h =
+    let p = λ (d : List ℕ) (i : ℕ) (s : List ℕ). paste-all d i s (length s) refl in
+    ap (λ d. placed d (at + length a) b) (sym (p old at a)) ∙ sym (p (paste old at a (length a)) (at + length a) b) ∙ paste-paste old at a b (length a) (length b) refl refl h ∙ rw (← length-append a b) (p old at (a ++ b))
+
+pub length-placed : (old : List ℕ) (at : ℕ) (a : List ℕ) → at + length a ≤ length old → length (placed old at a) ≡ length old
+length-placed old at a h =
+    ap length (sym (paste-all old at a (length a) refl)) ∙ length-paste old at a (length a) h (omega arith)
+
+pub placed-front : (old a : List ℕ) → placed old 0 a ≡ a ++ drop (length a) old
+placed-front old a = rw zero-add
+
+-- a loop that writes pieces one after another from `at` on: it has come to piece i
+module _ {X : Type 0} (f : X → List ℕ) (xs : List X) (i : ℕ) (at end : ℕ) (so-far : end ≡ at + length (joined f (take i xs))) where
+  pub ends-all : length xs ≤ i → end ≡ at + length (joined f xs)
+  ends-all h = so-far ∙ ap (λ l. at + length (joined f l)) (take-all i xs h)
+
+  pub ends-more : (d : X) → i < length xs → end + length (f (getD xs i d)) ≡ at + length (joined f (take (i + 1) xs))
+  ends-more d h = omega (arith, ap length (joined-more f xs i d h), length-append (joined f (take i xs)) (f (getD xs i d)))
+
+  pub ends-within : (d : X) → i < length xs → end + length (f (getD xs i d)) ≤ at + length (joined f xs)
+  ends-within d h = omega (arith, ends-more d h, joined-within f xs (i + 1))
+
+  module _ (old text : List ℕ) (written : text ≡ placed old at (joined f (take i xs))) where
+    pub written-all : length xs ≤ i → text ≡ placed old at (joined f xs)
+    written-all h = written ∙ ap (λ l. placed old at (joined f l)) (take-all i xs h)
+
+    pub written-more : (d : X) → i < length xs → at ≤ length old → placed text end (f (getD xs i d)) ≡ placed old at (joined f (take (i + 1) xs))
+    written-more d h room =
+        let piece = f (getD xs i d) in
+        ap (λ t. placed t end piece) written ∙ ap (λ e. placed (placed old at (joined f (take i xs))) e piece) so-far ∙ placed-placed old at (joined f (take i xs)) piece room ∙ ap (λ l. placed old at l) (sym (joined-more f xs i d h))

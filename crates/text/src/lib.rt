@@ -1,0 +1,3 @@
+// The bytes that a program writes: a plan's text, and the line that says why a program stopped.
+mod digits;
+mod parts;

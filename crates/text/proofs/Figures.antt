@@ -5,10 +5,10 @@ use Prim.Native.Nat.{ℕ, zero, suc, _+_, _-_, _*_, _/_, _%_, _^_, _≤_, _<_}
 use native.Mathlib.Nat.{div-lt-iff-lt-mul, pow-suc}
 use native.Mathlib.Numerals.{add-one}
 use native.Mathlib.Omega.{arith}
-use lib.ListN.{length, drop, set}
+use lib.ListN.{length, take, drop, set}
 use Rattle.std.specs.Written.{decimal}
 use Rattle.std.proofs.shelf.Decimals.{decimal-digit, decimal-step}
-use Rattle.std.proofs.shelf.Lists.{drop-set}
+use Rattle.std.proofs.shelf.Lists.{drop-set, take-rest}
 
 -- `rest` is not written yet, and what follows stands from place `from + 1` on
 module _ (all digits : List ℕ) (rest from : ℕ) (within : from < length digits) (so-far : all ≡ decimal rest ++ drop (from + 1) digits) where
@@ -27,3 +27,7 @@ fewer-digits rest k h = div-lt-iff-lt-mul (omega arith) .1 (rw (add-one, pow-suc
 pub some-place : (rest k : ℕ) → 10 ≤ rest → rest < 10 ^ (k + 1) → 0 < k
 some-place rest zero h l = absurd (omega arith)
 some-place rest (suc k) h l = omega arith
+
+-- the digits as they are lent: from a place to the end
+pub lent-digits : (digits : List ℕ) (from n : ℕ) → length digits ≡ 20 → drop from digits ≡ decimal n → take (20 - from) (drop from digits) ≡ decimal n
+lent-digits digits from n long e = ap (λ k. take (k - from) (drop from digits)) (sym long) ∙ take-rest digits from ∙ e

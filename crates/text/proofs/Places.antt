@@ -62,3 +62,8 @@ module _ {X : Type 0} (f : X → List ℕ) (xs : List X) (i : ℕ) (at end : ℕ
     written-more d h room =
         let piece = f (getD xs i d) in
         ap (λ t. placed t end piece) written ∙ ap (λ e. placed (placed old at (joined f (take i xs))) e piece) so-far ∙ placed-placed old at (joined f (take i xs)) piece room ∙ ap (λ l. placed old at l) (sym (joined-more f xs i d h))
+
+-- b written where a ends, a at the front
+pub placed-behind : (old text a b : List ℕ) (end r : ℕ) → text ≡ placed old 0 a → end ≡ length a → r ≡ length (a ++ b) → placed text end b ≡ (a ++ b) ++ drop r old
+placed-behind old text a b end r written e f =
+    ap (λ t. placed t end b) written ∙ ap (λ i. placed (placed old 0 a) i b) (e ∙ sym (zero-add (length a))) ∙ placed-placed old 0 a b (omega arith) ∙ placed-front old (a ++ b) ∙ ap (λ i. (a ++ b) ++ drop i old) (sym f)

@@ -2,7 +2,7 @@
 ghost use mathlib.Core.Path.{_≡_};
 ghost use Prim.Native.Nat.{_+_, _≤_};
 ghost use lib.ListN.{length};
-ghost use Rattle.text.specs.Buffer.{fit, pieces, placed};
+ghost use Rattle.text.specs.Buffer.{after, fit, pieces, placed};
 use task::Fault;
 use task::Kind;
 
@@ -51,4 +51,13 @@ pub fn put_all(text: &mut [u8], at: usize, parts: &[&[u8]]) -> usize
         end = put(text, end, part);
     }
     end
+}
+
+// The pieces at the front of `text`, and where they end; later bytes stay. Refused where they do not fit.
+pub fn write_all(parts: &[&[u8]], text: &mut [u8]) -> Result<usize, Fault>
+    ensures answers { λ r. ⌜ r ≡ fit (length (now (text .entry))) (length (pieces (now (parts .entry)))) ⌝ }
+    ensures buffer { λ r. ⌜ now (text .exit) ≡ after r (pieces (now (parts .entry))) (now (text .entry)) ⌝ }
+{
+    end_of_all(0, parts, text.len())?;
+    Ok(put_all(text, 0, parts))
 }

@@ -18,12 +18,12 @@ use Rattle.task.specs.declared.faults.Fault.{Fault}
 use Rattle.task.specs.declared.faults.Kind.the-variants.{OutOfRange, OverLimit}
 use Rattle.text.specs.Buffer.{fault, fit}
 
--- a name in brackets, as a line
-abbrev pub bracketed : List ℕ → List ℕ
-bracketed name = codes "(" ++ (name ++ codes ")\n")
-
+-- the operator's name in brackets
 abbrev pub step-line : Names → ℕ → List ℕ
-step-line n o = bracketed (n .name o)
+step-line n o = codes "(" ++ (n .name o ++ codes ")\n")
+
+abbrev pub step-lines : Names → List ℕ → List ℕ
+step-lines n steps = joined (step-line n) steps
 
 -- how the cost line ends
 abbrev pub cost-ending : Bool → List ℕ
@@ -34,7 +34,7 @@ cost-line unit cost = codes "; cost = " ++ (decimal cost ++ cost-ending unit)
 
 -- a line for each step, and the cost line
 abbrev pub plan-text : Model → Names → List ℕ → List ℕ
-plan-text m n steps = joined (step-line n) steps ++ cost-line (n .unit) (price m steps)
+plan-text m n steps = step-lines n steps ++ cost-line (n .unit) (price m steps)
 
 -- at most 65,535 steps
 abbrev pub check-count : List ℕ → Result (Unit {0}) Fault

@@ -8,7 +8,7 @@ use lib.ListN.{length, getD, take, drop, length-append}
 use lib.Seq.{paste}
 use Rattle.std.specs.Joined.{joined}
 use Rattle.std.proofs.shelf.Lists.{append-nil, take-all, take-more, take-append-drop}
-use Rattle.std.proofs.shelf.Edits.{paste-all, paste-paste, length-paste}
+use Rattle.std.proofs.shelf.Edits.{paste-all, paste-paste}
 use Rattle.text.specs.Buffer.{placed}
 
 module _ {X : Type 0} (f : X → List ℕ) where
@@ -36,32 +36,46 @@ placed-placed old at a b h =
     let p = λ (d : List ℕ) (i : ℕ) (s : List ℕ). paste-all d i s (length s) refl in
     ap (λ d. placed d (at + length a) b) (sym (p old at a)) ∙ sym (p (paste old at a (length a)) (at + length a) b) ∙ paste-paste old at a b (length a) (length b) refl refl h ∙ rw (← length-append a b) (p old at (a ++ b))
 
-pub length-placed : (old : List ℕ) (at : ℕ) (a : List ℕ) → at + length a ≤ length old → length (placed old at a) ≡ length old
-length-placed old at a h =
-    ap length (sym (paste-all old at a (length a) refl)) ∙ length-paste old at a (length a) h (omega arith)
-
 pub placed-front : (old a : List ℕ) → placed old 0 a ≡ a ++ drop (length a) old
 placed-front old a = rw zero-add
 
--- a loop that writes pieces one after another from `at` on: it has come to piece i
-module _ {X : Type 0} (f : X → List ℕ) (xs : List X) (i : ℕ) (at end : ℕ) (so-far : end ≡ at + length (joined f (take i xs))) where
-  pub ends-all : length xs ≤ i → end ≡ at + length (joined f xs)
-  ends-all h = so-far ∙ ap (λ l. at + length (joined f l)) (take-all i xs h)
+-- a loop over pieces that begin at `at` has come to piece i, and the pieces before it end at `end`
+pub record Come {X : Type 0} (f : X → List ℕ) (xs : List X) (at i end : ℕ) : Type 0 where
+  pub ends : end ≡ at + length (joined f (take i xs))
 
-  pub ends-more : (d : X) → i < length xs → end + length (f (getD xs i d)) ≡ at + length (joined f (take (i + 1) xs))
-  ends-more d h = omega (arith, ap length (joined-more f xs i d h), length-append (joined f (take i xs)) (f (getD xs i d)))
+-- and it has written these pieces over the old text
+pub record Wrote {X : Type 0} (f : X → List ℕ) (xs : List X) (at i end : ℕ) (old text : List ℕ) : Type 0 where
+  pub come : Come f xs at i end
+  pub holds : text ≡ placed old at (joined f (take i xs))
 
-  pub ends-within : (d : X) → i < length xs → end + length (f (getD xs i d)) ≤ at + length (joined f xs)
-  ends-within d h = omega (arith, ends-more d h, joined-within f xs (i + 1))
+pub come-none : {X : Type 0} (f : X → List ℕ) (xs : List X) (at : ℕ) → Come f xs at 0 at
+come-none f xs at = record { ends = omega arith }
 
-  module _ (old text : List ℕ) (written : text ≡ placed old at (joined f (take i xs))) where
-    pub written-all : length xs ≤ i → text ≡ placed old at (joined f xs)
-    written-all h = written ∙ ap (λ l. placed old at (joined f l)) (take-all i xs h)
+pub wrote-none : {X : Type 0} (f : X → List ℕ) (xs : List X) (at : ℕ) (old : List ℕ) → Wrote f xs at 0 at old old
+wrote-none f xs at old = record { come = come-none f xs at; holds = sym (placed-none old at) }
 
-    pub written-more : (d : X) → i < length xs → at ≤ length old → placed text end (f (getD xs i d)) ≡ placed old at (joined f (take (i + 1) xs))
-    written-more d h room =
-        let piece = f (getD xs i d) in
-        ap (λ t. placed t end piece) written ∙ ap (λ e. placed (placed old at (joined f (take i xs))) e piece) so-far ∙ placed-placed old at (joined f (take i xs)) piece room ∙ ap (λ l. placed old at l) (sym (joined-more f xs i d h))
+module _ {X : Type 0} {f : X → List ℕ} {xs : List X} {at i end : ℕ} where
+  pub come-all : Come f xs at i end → length xs ≤ i → end ≡ at + length (joined f xs)
+  come-all c h = c .ends ∙ ap (λ l. at + length (joined f l)) (take-all i xs h)
+
+  -- e is where the next piece ends
+  pub come-more : Come f xs at i end → (d : X) (e : ℕ) → i < length xs → e ≡ end + length (f (getD xs i d)) → Come f xs at (i + 1) e
+  come-more c d e h is =
+      record { ends = omega (arith, ap length (joined-more f xs i d h), length-append (joined f (take i xs)) (f (getD xs i d))) }
+
+  pub come-within : Come f xs at i end → (d : X) → i < length xs → end + length (f (getD xs i d)) ≤ at + length (joined f xs)
+  come-within c d h = omega (arith, come-more c d _ h refl .ends, joined-within f xs (i + 1))
+
+  pub wrote-all : {old text : List ℕ} → Wrote f xs at i end old text → length xs ≤ i → text ≡ placed old at (joined f xs)
+  wrote-all {old} w h = w .holds ∙ ap (λ l. placed old at (joined f l)) (take-all i xs h)
+
+  pub wrote-more : {old text : List ℕ} → Wrote f xs at i end old text → (d : X) (e : ℕ) (t : List ℕ) → i < length xs → at ≤ length old → e ≡ end + length (f (getD xs i d)) → t ≡ placed text end (f (getD xs i d)) → Wrote f xs at (i + 1) e old t
+  wrote-more {old} w d e t h room is put =
+      let piece = f (getD xs i d) in
+      record {
+        come = come-more (w .come) d e h is;
+        holds = put ∙ ap (λ z. placed z end piece) (w .holds) ∙ ap (λ n. placed (placed old at (joined f (take i xs))) n piece) (w .come .ends) ∙ placed-placed old at (joined f (take i xs)) piece room ∙ ap (λ l. placed old at l) (sym (joined-more f xs i d h));
+      }
 
 -- b written where a ends, a at the front
 pub placed-behind : (old text a b : List ℕ) (end r : ℕ) → text ≡ placed old 0 a → end ≡ length a → r ≡ length (a ++ b) → placed text end b ≡ (a ++ b) ++ drop r old

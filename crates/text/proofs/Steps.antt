@@ -1,5 +1,5 @@
 -- A loop over the steps of a plan, come to step i. Assumes nothing.
-use mathlib.Core.Path.{_≡_, sym, ap, _∙_}
+use mathlib.Core.Path.{_≡_, sym, _∙_}
 use mathlib.Core.Logic.{⊎-elim}
 use mathlib.Core.List.{List}
 use Prim.Native.Nat.{ℕ, _+_, _≤_, _<_}
@@ -25,9 +25,9 @@ module _ (operators : ℕ) (steps : List ℕ) (i : ℕ) (so-far : first-unknown 
   unknown-here h k =
       sym (cond-false _ _ _ (le-ltb (getD steps i 0) operators k)) ∙ sym (at-drop-more (first-unknown operators i) steps i 0 h) ∙ so-far
 
-module _ (m : Model) (lawful : Lawful m) where
-  pub cost-at-most : (o : ℕ) → m .cost o ≤ 1000000
-  cost-at-most o =
+module _ (m : Model) where
+  pub cost-at-most : Lawful m → (o : ℕ) → m .cost o ≤ 1000000
+  cost-at-most lawful o =
       ⊎-elim (λ h. lawful .priced o h .1) (λ h. omega (arith, lawful .unpriced o h)) (cases-lt o (m .operators))
 
   pub price-from : (steps : List ℕ) (i : ℕ) → i < length steps → price m (drop i steps) ≡ m .cost (getD steps i 0) + price m (drop (i + 1) steps)

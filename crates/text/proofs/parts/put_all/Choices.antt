@@ -1,9 +1,6 @@
-use Prim.Native.Nat.{_+_, _≤_}
-use mathlib.Core.Path.{_≡_}
-use lib.ListN.{length, take}
-use Rattle.text.specs.Buffer.{pieces, placed}
+use denote.Ref.{now}
+use Rattle.text.proofs.Places.{Wrote}
 use Rattle.text.proofs.parts.put_all.Given as given
 
 abbrev pub Inv-loop-part : given.InvT-loop-part
-Inv-loop-part l =
-    (l .end ≡ l .at + length (pieces (take (l .part-index) (l .parts)))) × (l .text ≡ placed (l .entry .text) (l .at) (pieces (take (l .part-index) (l .parts))))
+Inv-loop-part l = Wrote (λ part. now part) (l .parts) (l .at) (l .part-index) (l .end) (l .entry .text) (l .text)

@@ -4,23 +4,22 @@ use native.Mathlib.Nat.{le-trans, zero-add}
 use native.Mathlib.Omega.{arith}
 use lib.ListN.{length}
 use Rattle.text.specs.Buffer.{placed}
-use Rattle.text.specs.PlanText.{step-line}
-use Rattle.text.proofs.Places.{ends-more, ends-within, written-all, written-more}
+use Rattle.text.proofs.Places.{come-within, wrote-all, wrote-more, wrote-none}
 use Rattle.text.proofs.plan.put_steps.Needs as need
+
+pub loop-step-holds : need.loop-step-holds
+loop-step-holds g c = wrote-none _ (c .args .steps .now) 0 (c .args .text .now)
 
 pub put-all-end-requires : need.put-all-end-requires
 put-all-end-requires g c κs =
-    let line = step-line (g .T·NamedTask .names (c .args .task .now)) in
-    let within = ends-within line (c .args .steps .now) (c .loop-step .step-index) 0 (c .loop-step .end) (c .loop-step .inv .0) 0 (c .loop-step-test .taken) in
+    let within = come-within (c .loop-step .inv .come) 0 (c .loop-step-test .taken) in
     subst (λ x. c .loop-step .end + length x ≤ length (c .loop-step .text)) (sym (c .step-pieces .ensures)) (rw (c .loop-step .kept .text) (le-trans (rw zero-add at within) (c .pre)))
 
 pub loop-step-again : need.loop-step-again
 loop-step-again g c =
-    let line = step-line (g .T·NamedTask .names (c .args .task .now)) in
     let end = c .loop-step .end in
-    let text = c .loop-step .text in
-    (c .put-all-end .ensures .end ∙ ap (λ x. end + length x) (c .step-pieces .ensures) ∙ ends-more line (c .args .steps .now) (c .loop-step .step-index) 0 end (c .loop-step .inv .0) 0 (c .loop-step-test .taken), c .put-all-end .ensures .after ∙ ap (λ x. placed text end x) (c .step-pieces .ensures) ∙ written-more line (c .args .steps .now) (c .loop-step .step-index) 0 end (c .loop-step .inv .0) (c .args .text .now) text (c .loop-step .inv .1) 0 (c .loop-step-test .taken) (omega arith))
+    let line = c .step-pieces .ensures in
+    wrote-more (c .loop-step .inv) 0 _ _ (c .loop-step-test .taken) (omega arith) (c .put-all-end .ensures .end ∙ ap (λ x. end + length x) line) (c .put-all-end .ensures .after ∙ ap (λ x. placed (c .loop-step .text) end x) line)
 
 pub returns : need.returns
-returns g c =
-    written-all (step-line (g .T·NamedTask .names (c .args .task .now))) (c .args .steps .now) (c .loop-step .step-index) 0 (c .loop-step .end) (c .loop-step .inv .0) (c .args .text .now) (c .loop-step .text) (c .loop-step .inv .1) (c .loop-step-test .left)
+returns g c = wrote-all (c .loop-step .inv) (c .loop-step-test .left)

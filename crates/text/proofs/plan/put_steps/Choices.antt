@@ -1,11 +1,7 @@
-use Prim.Native.Nat.{_+_}
-use mathlib.Core.Path.{_≡_}
-use lib.ListN.{length, take}
-use Rattle.std.specs.Joined.{joined}
-use Rattle.text.specs.Buffer.{placed}
 use Rattle.text.specs.PlanText.{step-line}
+use Rattle.text.proofs.Places.{Wrote}
 use Rattle.text.proofs.plan.put_steps.Given as given
 
 abbrev pub Inv-loop-step : given.InvT-loop-step
 Inv-loop-step g l =
-    (l .end ≡ 0 + length (joined (step-line (g .T·NamedTask .names (l .task))) (take (l .step-index) (l .steps)))) × (l .text ≡ placed (l .entry .text) 0 (joined (step-line (g .T·NamedTask .names (l .task))) (take (l .step-index) (l .steps))))
+    Wrote (step-line (g .T·NamedTask .names (l .task))) (l .steps) 0 (l .step-index) (l .end) (l .entry .text) (l .text)

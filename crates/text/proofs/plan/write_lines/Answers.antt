@@ -1,13 +1,12 @@
-use mathlib.Core.Path.{_≡_, refl, _∙_, ap}
+use mathlib.Core.Path.{_≡_, _∙_, ap}
 use mathlib.Core.List.{_++_}
 use Prim.Native.Nat.{_+_, _≤_}
 use native.Mathlib.Omega.{arith}
 use lib.ListN.{length, length-append}
-use Rattle.std.specs.Joined.{joined}
 use Rattle.std.specs.declared.result.Result.the-variants.{Ok}
 use Rattle.std.proofs.shelf.Results.{err-from-errBy}
-use Rattle.text.specs.Buffer.{pieces, fit}
-use Rattle.text.specs.PlanText.{step-line}
+use Rattle.text.specs.Buffer.{pieces}
+use Rattle.text.specs.PlanText.{step-lines}
 use Rattle.text.proofs.Fits.{ok-from-fit, fit-within, fit-longer}
 use Rattle.text.proofs.Places.{placed-behind}
 use Rattle.text.proofs.plan.write_lines.Needs as need
@@ -15,7 +14,7 @@ use Rattle.text.proofs.plan.write_lines.Needs as need
 pub returns-in-Break-end : need.returns-in-Break-end
 returns-in-Break-end g c =
     let p = err-from-errBy (c .from-residual .result) (c .from-residual .ensures .1) in
-    let lines = joined (step-line (g .T·NamedTask .names (c .args .task .now))) (c .args .steps .now) in
+    let lines = step-lines (g .T·NamedTask .names (c .args .task .now)) (c .args .steps .now) in
     let last = pieces (c .args .last .now) in
     record {
       answers = rw (p .1, p .2) (fit-longer _ (length lines) _ (length (lines ++ last)) (omega (arith, length-append lines last)) (c .in-Break-end .ensures tt));
@@ -25,7 +24,7 @@ returns-in-Break-end g c =
 pub returns-in-Break-end-of-all : need.returns-in-Break-end-of-all
 returns-in-Break-end-of-all g c =
     let p = err-from-errBy (c .from-residual-in-Break-end-of-all .result) (c .from-residual-in-Break-end-of-all .ensures .1) in
-    let lines = joined (step-line (g .T·NamedTask .names (c .args .task .now))) (c .args .steps .now) in
+    let lines = step-lines (g .T·NamedTask .names (c .args .task .now)) (c .args .steps .now) in
     let last = pieces (c .args .last .now) in
     let e = ok-from-fit _ (length lines) _ (c .in-Continue-end .ensures tt) in
     record {
@@ -35,7 +34,7 @@ returns-in-Break-end-of-all g c =
 
 pub returns : need.returns
 returns g c =
-    let lines = joined (step-line (g .T·NamedTask .names (c .args .task .now))) (c .args .steps .now) in
+    let lines = step-lines (g .T·NamedTask .names (c .args .task .now)) (c .args .steps .now) in
     let last = pieces (c .args .last .now) in
     let room = length (c .args .text .now) in
     let e = ok-from-fit room (length lines) _ (c .in-Continue-end .ensures tt) in

@@ -1,17 +1,16 @@
 use mathlib.Core.Path.{_∙_, ap}
 use mathlib.Core.List.{_++_}
 use lib.ListN.{length}
-use Rattle.std.specs.Joined.{joined}
 use Rattle.std.specs.Written.{decimal}
 use Rattle.text.specs.Buffer.{after, fit}
-use Rattle.text.specs.PlanText.{cost-ending, step-line}
+use Rattle.text.specs.PlanText.{cost-ending, step-lines}
 use Rattle.text.proofs.Figures.{lent-digits}
 use Rattle.text.proofs.Lines.{cost-pieces, then-passed}
 use Rattle.text.proofs.plan.write_plan.Needs as need
 
 pub returns : need.returns
 returns g c =
-    let lines = joined (step-line (g .T·NamedTask .names (c .args .task .now))) (c .args .steps .now) in
+    let lines = step-lines (g .T·NamedTask .names (c .args .task .now)) (c .args .steps .now) in
     let digits = lent-digits (c .spell-from .last .digits) (c .spell-from .result) (c .total .result) (c .spell-from .array-long) (c .spell-from .ensures .spelled) ∙ ap decimal (c .total .ensures) in
     let line = cost-pieces _ (c .cost-ending .result .now) _ _ digits (c .cost-ending .ensures ∙ ap cost-ending (c .unit-cost .ensures)) in
     record {

@@ -6,3 +6,6 @@ mod refusal;
 
 pub use plan::write_plan;
 pub use refusal::write_refusal;
+
+#[cfg(test)]
+mod tests;

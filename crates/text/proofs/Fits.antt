@@ -8,13 +8,13 @@ use Rattle.std.specs.declared.result.Result.the-variants.{Ok, Err}
 use Rattle.std.proofs.shelf.Tests.{cond-above, cond-below, ltb-true, ltb-false}
 use Rattle.task.specs.declared.faults.Fault.{Fault}
 use Rattle.task.specs.declared.faults.Kind.the-variants.{BufferShort}
-use Rattle.text.specs.Buffer.{fault, fit}
+use Rattle.text.specs.Buffer.{text-fault, fit}
 
 module _ (room end : ℕ) where
   pub ok-from-fit : (e : ℕ) → Ok e ≡ fit room end → (e ≡ end) × (end ≤ room)
   ok-from-fit e = go (ltb room end) refl
     where
-      go : (b : Bool) → ltb room end ≡ b → Ok e ≡ cond b (Err (fault BufferShort 0)) (Ok end) → (e ≡ end) × (end ≤ room)
+      go : (b : Bool) → ltb room end ≡ b → Ok e ≡ cond b (Err (text-fault BufferShort 0)) (Ok end) → (e ≡ end) × (end ≤ room)
       go true t p = absurd (grind arith)
       go false t p = (grind arith, ltb-false room end t)
 
@@ -25,6 +25,6 @@ module _ (room end : ℕ) where
   pub fit-longer : (f : Fault) (more : ℕ) → end ≤ more → Err f ≡ fit room end → Err f ≡ fit room more
   fit-longer f more h = go (ltb room end) refl
     where
-      go : (b : Bool) → ltb room end ≡ b → Err f ≡ cond b (Err (fault BufferShort 0)) (Ok end) → Err f ≡ fit room more
+      go : (b : Bool) → ltb room end ≡ b → Err f ≡ cond b (Err (text-fault BufferShort 0)) (Ok end) → Err f ≡ fit room more
       go true t p = p ∙ cond-below room more _ _ (omega (arith, ltb-true room end t))
       go false t p = absurd (grind arith)

@@ -14,12 +14,12 @@ use Rattle.task.specs.declared.faults.Kind.the-variants.{BufferShort}
 use Rattle.task.specs.declared.faults.Layer.the-variants.{Text}
 
 -- a fault of text
-abbrev pub fault : Kind → ℕ → Fault
-fault kind place = record { kind = kind; place = place; layer = Text }
+abbrev pub text-fault : Kind → ℕ → Fault
+text-fault kind place = record { kind = kind; place = place; layer = Text }
 
 -- the end of a text, where the room is at least that
 abbrev pub fit : ℕ → ℕ → Result ℕ Fault
-fit room end = cond (ltb room end) (Err (fault BufferShort 0)) (Ok end)
+fit room end = cond (ltb room end) (Err (text-fault BufferShort 0)) (Ok end)
 
 -- a buffer after an answer: the text at its front, or as it was
 abbrev pub after : Result ℕ Fault → List ℕ → List ℕ → List ℕ

@@ -16,7 +16,7 @@ use Rattle.task.specs.Names.{Names}
 use Rattle.task.specs.Plans.{price}
 use Rattle.task.specs.declared.faults.Fault.{Fault}
 use Rattle.task.specs.declared.faults.Kind.the-variants.{OutOfRange, OverLimit}
-use Rattle.text.specs.Buffer.{fault, fit}
+use Rattle.text.specs.Buffer.{text-fault, fit}
 
 -- the operator's name in brackets
 abbrev pub step-line : Names → ℕ → List ℕ
@@ -38,7 +38,7 @@ plan-text m n steps = step-lines n steps ++ cost-line (n .unit) (price m steps)
 
 -- at most 65,535 steps
 abbrev pub check-count : List ℕ → Result (Unit {0}) Fault
-check-count steps = cond (ltb 65535 (length steps)) (Err (fault OverLimit 0)) (Ok tt)
+check-count steps = cond (ltb 65535 (length steps)) (Err (text-fault OverLimit 0)) (Ok tt)
 
 -- the place of the first step that is no operator; the first of all stands at `at`
 abbrev pub first-unknown : ℕ → ℕ → List ℕ → Option ℕ
@@ -48,7 +48,7 @@ first-unknown operators at (o ∷ os) = cond (ltb o operators) (first-unknown op
 -- no step is unknown
 abbrev pub check-known : Option ℕ → Result (Unit {0}) Fault
 check-known None = Ok tt
-check-known (Some place) = Err (fault OutOfRange place)
+check-known (Some place) = Err (text-fault OutOfRange place)
 
 -- a check's refusal, or else the answer
 abbrev pub then : Result (Unit {0}) Fault → Result ℕ Fault → Result ℕ Fault

@@ -73,7 +73,7 @@ module _ {A : Type 0} (R : A → A → Type 0) where
       record {
         ascending = ascending-append P Q f xs ys (a .ascending) (a .each) (b .ascending) (b .each);
         each =
-          each-append (λ y. P y ⊎ Q y) xs ys (each-weaker P (λ y. P y ⊎ Q y) (λ y. inl) xs (a .each)) (each-weaker Q (λ y. P y ⊎ Q y) (λ y. inr) ys (b .each));
+            each-append (λ y. P y ⊎ Q y) xs ys (each-weaker P (λ y. P y ⊎ Q y) (λ y. inl) xs (a .each)) (each-weaker Q (λ y. P y ⊎ Q y) (λ y. inr) ys (b .each));
         whole = λ y. ⊎-elim (λ p. in-left y xs ys (a .whole y p)) (λ q. in-right y xs ys (b .whole y q));
       }
 

@@ -10,6 +10,7 @@ use Rattle.std.specs.declared.option.Option.the-variants.{Some, None}
 use Rattle.std.proofs.str.Laws.{order}
 use Rattle.task.specs.Listing.{AllOf}
 use Rattle.task.specs.Model.{Model}
+use Rattle.task.specs.Moves.{FirstMove}
 use Rattle.task.specs.Order.{Before}
 use Rattle.task.specs.Plans.{then-on, follow, price, Reaches}
 use Rattle.enumerate.specs.Completes.{Completes, CompletesBelow}
@@ -59,22 +60,22 @@ module _ (m : Model) (s : ℕ) where
         begins [] p = (p, tt)
         begins (o ∷ os) p = ⊎-elim (λ l. (p, l)) (λ l. absurd (no-move-no-way o os (none o l) (p .0))) (order o n)
 
-    module _ (n o t : ℕ) (from : n ≤ o) (leads : m .move s o ≡ Some t) (gap : (p : ℕ) → n ≤ p → p < o → m .move s p ≡ None) where
+    module _ (n o t k : ℕ) (first : FirstMove m s n (Some (o, t))) (costs : k ≡ m .cost o) where
       -- from n to the next move o: one begins below n, or with o
       below-or-with : (os : List ℕ) → CompletesBelow m s c (o + 1) os → CompletesBelow m s c n os ⊎ LedBy o (λ ps. Reaches m t ps × (m .cost o + price m ps ≡ c)) os
       below-or-with [] p = inl (p .0, tt)
       below-or-with (q ∷ os) p =
-          ⊎-elim (λ l. inl (p .0, l)) (λ l. ⊎-elim (λ k. absurd (no-move-no-way q os (gap q l k) (p .0 .0))) (λ k. inr (here (omega (arith, p .1)))) (order q o)) (order q n)
+          ⊎-elim (λ l. inl (p .0, l)) (λ l. ⊎-elim (λ k. absurd (no-move-no-way q os (first .2 q l k) (p .0 .0))) (λ k. inr (here (omega (arith, p .1)))) (order q o)) (order q n)
         where
           here : q ≡ o → (q ≡ o) × (Reaches m t os × (m .cost o + price m os ≡ c))
-          here e = (e, (way-after q t os (ap (m .move s) e ∙ leads) (p .0 .0), ap (λ x. m .cost x + price m os) (sym e) ∙ p .0 .1))
+          here e = (e, (way-after q t os (ap (m .move s) e ∙ first .1) (p .0 .0), ap (λ x. m .cost x + price m os) (sym e) ∙ p .0 .1))
 
       more-below : (os : List ℕ) → CompletesBelow m s c n os → CompletesBelow m s c (o + 1) os
       more-below [] p = p
-      more-below (q ∷ os) p = (p .0, omega (arith, p .1))
+      more-below (q ∷ os) p = (p .0, omega (arith, p .1, first .0))
 
       -- a move that costs too much begins none
-      pub below-skips : c < m .cost o → (xs : List (List ℕ)) → AllOf Before (CompletesBelow m s c n) xs → AllOf Before (CompletesBelow m s c (o + 1)) xs
+      pub below-skips : c < k → (xs : List (List ℕ)) → AllOf Before (CompletesBelow m s c n) xs → AllOf Before (CompletesBelow m s c (o + 1)) xs
       below-skips dear xs a =
           all-of-alike Before (CompletesBelow m s c n) (CompletesBelow m s c (o + 1)) more-below (λ os p. ⊎-elim (λ b. b) (λ b. absurd (no os b)) (below-or-with os p)) xs a
         where
@@ -83,21 +84,24 @@ module _ (m : Model) (s : ℕ) where
           no (q ∷ os) b = omega (arith, b .1 .1)
 
       -- a move o, and all that complete the state it leads to: the lists that begin with o come next
-      pub below-more : m .cost o ≤ c → (xs ys : List (List ℕ)) → AllOf Before (CompletesBelow m s c n) xs → AllOf Before (Completes m t (c - m .cost o)) ys → AllOf Before (CompletesBelow m s c (o + 1)) (xs ++ map (λ os. o ∷ os) ys)
+      pub below-more : k ≤ c → (xs ys : List (List ℕ)) → AllOf Before (CompletesBelow m s c n) xs → AllOf Before (Completes m t (c - k)) ys → AllOf Before (CompletesBelow m s c (o + 1)) (xs ++ map (λ os. o ∷ os) ys)
       below-more cheap xs ys a b =
           all-of-alike Before (λ os. CompletesBelow m s c n os ⊎ LedBy o Rest os) (CompletesBelow m s c (o + 1)) into back (xs ++ map (λ os. o ∷ os) ys) (all-of-either Before (CompletesBelow m s c n) (LedBy o Rest) apart xs (map (λ os. o ∷ os) ys) a (all-of-led o Rest ys b))
         where
           Rest : List ℕ → Type 0
-          Rest = Completes m t (c - m .cost o)
+          Rest = Completes m t (c - k)
+
           apart : (os ps : List ℕ) → CompletesBelow m s c n os → LedBy o Rest ps → Before os ps
           apart os [] p l = absurd l
           apart [] (q ∷ ps) p l = tt
-          apart (r ∷ os) (q ∷ ps) p l = inl (omega (arith, p .1, l .0))
+          apart (r ∷ os) (q ∷ ps) p l = inl (omega (arith, p .1, l .0, first .0))
+
           into : (os : List ℕ) → CompletesBelow m s c n os ⊎ LedBy o Rest os → CompletesBelow m s c (o + 1) os
           into os (inl p) = more-below os p
           into [] (inr l) = absurd l
           into (q ∷ os) (inr l) =
-              ((way-before q t os (ap (m .move s) (l .0) ∙ leads) (l .1 .0), ap (λ x. m .cost x + price m os) (l .0) ∙ omega (arith, l .1 .1)), omega (arith, l .0))
+              ((way-before q t os (ap (m .move s) (l .0) ∙ first .1) (l .1 .0), ap (λ x. m .cost x + price m os) (l .0) ∙ omega (arith, l .1 .1)), omega (arith, l .0))
+
           back : (os : List ℕ) → CompletesBelow m s c (o + 1) os → CompletesBelow m s c n os ⊎ LedBy o Rest os
           back os p = ⊎-elim inl (λ l. inr (rest os l)) (below-or-with os p)
             where

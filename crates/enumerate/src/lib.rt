@@ -26,7 +26,12 @@ fn led_by(heap: Global, operator: u32, tail: &Vec<u32>) -> Result<Vec<u32>, Faul
 }
 
 // Appends to `plans` each list of `tails` with the operator before it. Refuses only for want of memory.
-fn append_led(heap: Global, plans: &mut Vec<Vec<u32>>, operator: u32, tails: &[Vec<u32>]) -> Result<(), Fault>
+fn append_led(
+    heap: Global,
+    plans: &mut Vec<Vec<u32>>,
+    operator: u32,
+    tails: &[Vec<u32>],
+) -> Result<(), Fault>
     ensures { λ r. ⌜ Cases r (λ _. plans-of (now (plans .exit)) ≡ plans-of (now (plans .entry)) ++ map (λ (os : List ℕ). operator ∷ os) (map vec-items (now (tails .entry)))) (λ f. f ≡ no-memory) ⌝ }
 {
     for tail in tails {
@@ -37,7 +42,12 @@ fn append_led(heap: Global, plans: &mut Vec<Vec<u32>>, operator: u32, tails: &[V
 
 // The empty list where the price is 0 and the state is a goal, and no list otherwise. Refuses only for want
 // of memory.
-fn empty_if_done<T: Task>(heap: Global, task: &T, state: u64, price: u32) -> Result<Vec<Vec<u32>>, Fault>
+fn empty_if_done<T: Task>(
+    heap: Global,
+    task: &T,
+    state: u64,
+    price: u32,
+) -> Result<Vec<Vec<u32>>, Fault>
     ensures { λ r. ⌜ Cases r (λ v. AllOf Before (CompletesBelow (T·Task .meaning (now (task .entry))) state price 0) (plans-of v)) (λ f. f ≡ no-memory) ⌝ }
 {
     let mut plans = Vec::new(heap);
@@ -49,7 +59,12 @@ fn empty_if_done<T: Task>(heap: Global, task: &T, state: u64, price: u32) -> Res
 
 // All lists of price exactly `price` that lead from `state` to a goal, in listing order. Refuses only for
 // want of memory.
-pub fn completions<T: Task>(heap: Global, task: &T, state: u64, price: u32) -> Result<Vec<Vec<u32>>, Fault>
+pub fn completions<T: Task>(
+    heap: Global,
+    task: &T,
+    state: u64,
+    price: u32,
+) -> Result<Vec<Vec<u32>>, Fault>
     ensures { λ r. ⌜ Cases r (λ v. AllOf Before (Completes (T·Task .meaning (now (task .entry))) state price) (plans-of v)) (λ f. f ≡ no-memory) ⌝ }
 {
     let mut plans = empty_if_done(heap, task, state, price)?;

@@ -79,3 +79,22 @@ pub fn completions<T: Task>(
     }
     Ok(plans)
 }
+
+// The cheapest plans, in listing order; none where no plan costs `highest` or less. Refuses only for want
+// of memory.
+pub fn cheapest<T: Task>(
+    heap: Global,
+    task: &T,
+    highest: u32,
+) -> Result<Option<Vec<Vec<u32>>>, Fault>
+    ensures { λ r. ⌜ Cases r (Found (T·Task .meaning (now (task .entry))) highest) (λ f. f ≡ no-memory) ⌝ }
+{
+    let start = task.start();
+    for price in 0..=highest {
+        let plans = completions(heap, task, start, price)?;
+        if !plans.is_empty() {
+            return Ok(Some(plans));
+        }
+    }
+    Ok(None)
+}

@@ -18,8 +18,9 @@ use Rattle.task.specs.Listing.{AllOf, Each}
 use Rattle.task.specs.Model.{Model}
 use Rattle.task.specs.Order.{Before}
 use Rattle.task.specs.Plans.{Plan, Cheapest, price}
-use Rattle.enumerate.specs.Completes.{Completes, plans-of}
+use Rattle.enumerate.specs.Completes.{Completes}
 use Rattle.enumerate.specs.Found.{Found}
+use Rattle.enumerate.specs.Lists.{plans-of}
 use Rattle.enumerate.proofs.Listings.{all-of-alike, each-weaker}
 
 module _ (m : Model) (c : ℕ) (least : (ps : List ℕ) → Plan m ps → c ≤ price m ps) where

@@ -10,7 +10,7 @@ use Rattle.task.specs.Listing.{AllOf, Each}
 use Rattle.task.specs.Model.{Model}
 use Rattle.task.specs.Order.{Before}
 use Rattle.task.specs.Plans.{Plan, Cheapest, price}
-use Rattle.enumerate.specs.Completes.{plans-of}
+use Rattle.enumerate.specs.Lists.{plans-of}
 
 -- all the cheapest plans, of which there are some, at a price of at most `highest`; or none, where every
 -- plan costs more

@@ -6,8 +6,9 @@ ghost use Rattle.std.specs.Of.Vec.{vec-items};
 ghost use Rattle.std.specs.Results.{Cases};
 ghost use Rattle.task.specs.Listing.{AllOf};
 ghost use Rattle.task.specs.Order.{Before};
-ghost use Rattle.enumerate.specs.Completes.{Completes, CompletesBelow, plans-of};
+ghost use Rattle.enumerate.specs.Completes.{Completes, CompletesBelow};
 ghost use Rattle.enumerate.specs.Found.{Found};
+ghost use Rattle.enumerate.specs.Lists.{plans-of};
 ghost use Rattle.enumerate.specs.Refusal.{no-memory};
 use std::alloc::Global;
 use task::Fault;
@@ -16,12 +17,12 @@ use task::FaultFromRefused;
 use task::Task;
 
 // The operator, then the steps of `tail`. Refuses only for want of memory.
-fn led_by(heap: Global, operator: u32, tail: &Vec<u32>) -> Result<Vec<u32>, Fault>
-    ensures { λ r. ⌜ Cases r (λ v. vec-items v ≡ operator ∷ vec-items (now (tail .entry))) (λ f. f ≡ no-memory) ⌝ }
+fn led_by(heap: Global, operator: u32, tail: &[u32]) -> Result<Vec<u32>, Fault>
+    ensures { λ r. ⌜ Cases r (λ v. vec-items v ≡ operator ∷ now (tail .entry)) (λ f. f ≡ no-memory) ⌝ }
 {
     let mut list = Vec::new(heap);
     list.push(operator)?;
-    list.extend_from_slice(tail.as_slice())?;
+    list.extend_from_slice(tail)?;
     Ok(list)
 }
 
@@ -35,7 +36,7 @@ fn append_led(
     ensures { λ r. ⌜ Cases r (λ _. plans-of (now (plans .exit)) ≡ plans-of (now (plans .entry)) ++ map (λ (os : List ℕ). operator ∷ os) (map vec-items (now (tails .entry)))) (λ f. f ≡ no-memory) ⌝ }
 {
     for tail in tails {
-        plans.push(led_by(heap, operator, tail)?)?;
+        plans.push(led_by(heap, operator, tail.as_slice())?)?;
     }
     Ok(())
 }

@@ -1,11 +1,5 @@
-use mathlib.Core.Path.{_≡_, sym, ap, subst, _∙_}
-use mathlib.Core.List.{List, _∷_, _++_, map}
-use Prim.Native.Nat.{ℕ, _+_}
-use Rattle.std.specs.Of.Vec.{vec-items}
 use native.Mathlib.Omega.{arith}
-use Rattle.task.specs.Listing.{AllOf}
-use Rattle.task.specs.Order.{Before}
-use Rattle.enumerate.specs.Completes.{CompletesBelow, plans-of}
+use Rattle.enumerate.specs.Lists.{plans-of}
 use Rattle.enumerate.proofs.Ways.{below-all, below-more, below-skips}
 use Rattle.enumerate.proofs.+completions.Needs as need
 use Rattle.enumerate.proofs.+completions.Needs.{then-cost-price·in-Continue-tails·in-Continue-append-led, else-cost-price}
@@ -30,8 +24,8 @@ loop-operator-less g t c =
 pub loop-operator-again : need.loop-operator-again
 loop-operator-again g t c =
     elim (c .if-cost-price .came) [
-      | then-cost-price·in-Continue-tails·in-Continue-append-led w ↦ subst (AllOf Before (CompletesBelow (g .T·Task .meaning (c .args .task .now)) (c .args .state) (c .args .price) (c .in-Some .operator + 1))) (ap (λ xs. plans-of (c .loop-operator .plans) ++ map (λ (os : List ℕ). c .in-Some .operator ∷ os) (map vec-items xs)) (sym (w .as-slice .ensures .value)) ∙ sym (w .in-Continue-append-led .ensures tt) ∙ ap plans-of (sym (w .plans-is))) (below-more (g .T·Task .meaning (c .args .task .now)) (c .args .state) (c .args .price) (c .loop-operator .from) (c .in-Some .operator) (c .in-Some .target) (c .cost-cost .result) (c .in-Some .ensures tt) (c .cost-cost .ensures) (w .if-cost-price .taken) (plans-of (c .loop-operator .plans)) (plans-of (w .in-Continue-tails .tails)) (c .loop-operator .inv) (w .in-Continue-tails .ensures tt))
-      | else-cost-price w ↦ subst (λ v. AllOf Before (CompletesBelow (g .T·Task .meaning (c .args .task .now)) (c .args .state) (c .args .price) (c .in-Some .operator + 1)) (plans-of v)) (sym (w .plans-is)) (below-skips (g .T·Task .meaning (c .args .task .now)) (c .args .state) (c .args .price) (c .loop-operator .from) (c .in-Some .operator) (c .in-Some .target) (c .cost-cost .result) (c .in-Some .ensures tt) (c .cost-cost .ensures) (w .if-cost-price .left) (plans-of (c .loop-operator .plans)) (c .loop-operator .inv))
+      | then-cost-price·in-Continue-tails·in-Continue-append-led w ↦ simp (w .plans-is, w .in-Continue-append-led .ensures tt, w .as-slice .ensures .value) (below-more (g .T·Task .meaning (c .args .task .now)) (c .args .state) (c .args .price) (c .loop-operator .from) (c .in-Some .operator) (c .in-Some .target) (c .cost-cost .result) (c .in-Some .ensures tt) (c .cost-cost .ensures) (w .if-cost-price .taken) (plans-of (c .loop-operator .plans)) (plans-of (w .in-Continue-tails .tails)) (c .loop-operator .inv) (w .in-Continue-tails .ensures tt))
+      | else-cost-price w ↦ simp (w .plans-is) (below-skips (g .T·Task .meaning (c .args .task .now)) (c .args .state) (c .args .price) (c .loop-operator .from) (c .in-Some .operator) (c .in-Some .target) (c .cost-cost .result) (c .in-Some .ensures tt) (c .cost-cost .ensures) (w .if-cost-price .left) (plans-of (c .loop-operator .plans)) (c .loop-operator .inv))
     ]
 
 pub returns : need.returns

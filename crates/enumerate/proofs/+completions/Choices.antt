@@ -1,7 +1,8 @@
 use Prim.Native.Nat.{_-_}
 use Rattle.task.specs.Listing.{AllOf}
 use Rattle.task.specs.Order.{Before}
-use Rattle.enumerate.specs.Completes.{CompletesBelow, plans-of}
+use Rattle.enumerate.specs.Completes.{CompletesBelow}
+use Rattle.enumerate.specs.Lists.{plans-of}
 use Rattle.enumerate.proofs.+completions.Given as given
 
 abbrev pub μ-completions : given.MeasureT-completions

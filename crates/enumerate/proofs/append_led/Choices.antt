@@ -3,7 +3,7 @@ use mathlib.Core.List.{List, _∷_, _++_, map}
 use Prim.Native.Nat.{ℕ}
 use lib.ListN.{drop}
 use Rattle.std.specs.Of.Vec.{vec-items}
-use Rattle.enumerate.specs.Completes.{plans-of}
+use Rattle.enumerate.specs.Lists.{plans-of}
 use Rattle.enumerate.proofs.append_led.Given as given
 
 -- what is there, with what is left, is the whole

@@ -14,7 +14,7 @@ use Rattle.task.specs.Moves.{FirstMove}
 use Rattle.task.specs.Order.{Before}
 use Rattle.task.specs.Plans.{then-on, follow, price, Reaches}
 use Rattle.enumerate.specs.Completes.{Completes, CompletesBelow}
-use Rattle.enumerate.proofs.Listings.{all-of-none, all-of-one, all-of-alike, all-of-either, all-of-led, LedBy}
+use Rattle.enumerate.proofs.Listings.{all-of-alike, all-of-either, all-of-led, LedBy}
 
 -- where going on leads somewhere, there was a state to go on from
 pub then-on-some : (x : Option ℕ) (f : ℕ → Option ℕ) (u : ℕ) → then-on x f ≡ Some u → (t : ℕ) × (x ≡ Some t) × (f t ≡ Some u)
@@ -37,21 +37,6 @@ module _ (m : Model) (s : ℕ) where
   way-before o t os e r = (r .0, ap (λ x. then-on x (λ u. follow m u os)) e ∙ r .1, r .2)
 
   module _ (c : ℕ) where
-    -- no operator is below 0: the empty list alone
-    pub below-0-empty : Completes m s c [] → AllOf Before (CompletesBelow m s c 0) ([] ∷ [])
-    below-0-empty h = all-of-one Before (CompletesBelow m s c 0) [] (h, tt) only
-      where
-        only : (os : List ℕ) → CompletesBelow m s c 0 os → os ≡ []
-        only [] p = refl
-        only (o ∷ os) p = absurd (omega (arith, p .1))
-
-    pub below-0-none : (Completes m s c [] → ⊥) → AllOf Before (CompletesBelow m s c 0) []
-    below-0-none h = all-of-none Before (CompletesBelow m s c 0) no
-      where
-        no : (os : List ℕ) → CompletesBelow m s c 0 os → ⊥
-        no [] p = h (p .0)
-        no (o ∷ os) p = omega (arith, p .1)
-
     -- no operator from n on leads anywhere: all are below n
     pub below-all : (n : ℕ) → ((o : ℕ) → n ≤ o → m .move s o ≡ None) → (xs : List (List ℕ)) → AllOf Before (CompletesBelow m s c n) xs → AllOf Before (Completes m s c) xs
     below-all n none xs a = all-of-alike Before (CompletesBelow m s c n) (Completes m s c) (λ os p. p .0) begins xs a

@@ -99,3 +99,6 @@ pub fn cheapest<T: Task>(
     }
     Ok(None)
 }
+
+#[cfg(test)]
+mod tests;

@@ -31,6 +31,24 @@ module _ {A : Type 0} (step : A → Place → Read A) (n i : ℕ) (a : A) (p : P
       let z : n - i ≡ 0 = omega arith in
       e ∙ ap (λ k. repeated step k a p) z
 
+-- what is read so far, whatever it is, and what is left to read
+abbrev pub Onward : {A : Type 0} → (A → Place → Read A) → ℕ → A → Place → ℕ → Place → Type 0
+Onward {A = A} step n a₀ p₀ i p = (a : A) × (repeated step n a₀ p₀ ≡ repeated step (n - i) a p)
+
+module _ {A : Type 0} (step : A → Place → Read A) (n : ℕ) (a₀ : A) (p₀ : Place) where
+  pub onward-start : Onward step n a₀ p₀ 0 p₀
+  onward-start = (a₀, ap (λ k. repeated step k a₀ p₀) (omega arith))
+
+  module _ (i : ℕ) (p : Place) (so : Onward step n a₀ p₀ i p) where
+    pub onward-more : i < n → (q : Place) → ((a : A) → (b : A) × (step a p ≡ Ok (b, q))) → Onward step n a₀ p₀ (i + 1) q
+    onward-more h q s = let b = s (so .0) in (b .0, repeat-on step n i (so .0) p _ h (so .1) (b .0) q (b .1))
+
+    pub onward-fault : i < n → (f : Fault) → ((a : A) → step a p ≡ Err f) → repeated step n a₀ p₀ ≡ Err f
+    onward-fault h f s = repeat-fault step n i (so .0) p _ h (so .1) f (s (so .0))
+
+    pub onward-done : n ≤ i → (a : A) × (repeated step n a₀ p₀ ≡ Ok (a, p))
+    onward-done h = (so .0, repeat-done step n i (so .0) p _ h (so .1))
+
 module _ {A V : Type 0} (K : A → V → Type 0) (d : Read A) (r : Result V Fault) (p : Place) (f : Fault) where
   -- the exit of a `?` that hands a fault on
   pub finds-fault : ErrBy r (λ y. y ≡ f) → d ≡ Err f → Finds K d r p

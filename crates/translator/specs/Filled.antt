@@ -3,10 +3,12 @@ use mathlib.Core.Path.{_≡_}
 use mathlib.Core.Bool.{Bool}
 use mathlib.Core.List.{List}
 use Prim.Native.Nat.{ℕ}
-use lib.ListN.{take}
+use lib.ListN.{length, take}
+use Rattle.sas.specs.declared.tables.Condition.{Condition}
+use Rattle.sas.specs.declared.tables.Operator.{Operator}
 use Rattle.sas.specs.declared.tables.Variable.{Variable}
-use Rattle.translator.specs.Description.{DescribedVariable, sizes-in}
-use Rattle.translator.specs.Filling.{filled, variable-records}
+use Rattle.translator.specs.Description.{DescribedVariable, DescribedOperator, sizes-in, conditions-in}
+use Rattle.translator.specs.Filling.{filled, variable-records, operator-record}
 use Rattle.translator.specs.Sound.{SoundSizes}
 
 -- the sizes of the variables are at hand, and their records stand
@@ -14,3 +16,19 @@ pub record VariablesFilled (count : ℕ) (write : Bool) (old : List Variable) (s
   pub sized : take count sizes ≡ sizes-in vs
   pub laid : new ≡ filled write old 0 (variable-records vs)
   pub sound : SoundSizes (sizes-in vs)
+
+-- the conditions read stand from this place on, and their variables are noted
+pub record ConditionsFilled (first count : ℕ) (write : Bool) (old : List Condition) (seen : List Bool) (new : List Condition) (s : List Condition × List Bool) : Type 0 where
+  pub noted : s .1 ≡ seen
+  pub long : length (s .0) ≡ count
+  pub laid : new ≡ filled write old first (s .0)
+
+-- the goal's conditions stand first
+pub record GoalFilled (count : ℕ) (write : Bool) (old new : List Condition) (cs : List Condition) : Type 0 where
+  pub long : length cs ≡ count
+  pub laid : new ≡ filled write old 0 cs
+
+-- an operator's conditions stand from this place on, and this is its record
+pub record OperatorFilled (first : ℕ) (write : Bool) (old new : List Condition) (r : Operator) (o : DescribedOperator) : Type 0 where
+  pub is : r ≡ operator-record first o
+  pub laid : new ≡ filled write old first (conditions-in o)

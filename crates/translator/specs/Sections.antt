@@ -91,11 +91,8 @@ next-before size p = and-then (next-signed p) (λ z q. value-or-any size z q)
 abbrev pub asks : ℕ → ℕ → Condition
 asks v x = record { variable = v; before = Some x; after = None }
 
-abbrev pub fact-line : List ℕ → Place → Read Condition
-fact-line sizes p = and-then (next-line p) (λ l q. and-then (known-variable sizes q) (λ v q. and-then (next-value (getD sizes v 0) q) (λ x q. and-then (line-end q) (λ e q. Ok (asks v x, q)))))
-
-abbrev pub fresh-fact-line : List ℕ → List Bool → Place → Read Condition
-fresh-fact-line sizes seen p = and-then (next-line p) (λ l q. and-then (fresh-variable sizes seen q) (λ v q. and-then (next-value (getD sizes v 0) q) (λ x q. and-then (line-end q) (λ e q. Ok (asks v x, q)))))
+abbrev pub fact-line : List ℕ → List Bool → Place → Read Condition
+fact-line sizes seen p = and-then (next-line p) (λ l q. and-then (fresh-variable sizes seen q) (λ v q. and-then (next-value (getD sizes v 0) q) (λ x q. and-then (line-end q) (λ e q. Ok (asks v x, q)))))
 
 abbrev pub effect-line : List ℕ → List Bool → Place → Read Condition
 effect-line sizes seen p =
@@ -105,10 +102,10 @@ effect-line sizes seen p =
 abbrev pub marked : List Bool → Condition → List Bool
 marked seen c = set seen (c .variable) true
 
--- a condition of this form, and the variables seen after it
+-- a condition of this form, and the variables seen after it; a mutex group may name a variable again
 abbrev pub condition-line : Form → List ℕ → List Bool → Place → Read (Condition × List Bool)
-condition-line Mutex sizes seen p = and-then (fact-line sizes p) (λ c q. Ok ((c, seen), q))
-condition-line Fact sizes seen p = and-then (fresh-fact-line sizes seen p) (λ c q. Ok ((c, marked seen c), q))
+condition-line Mutex sizes seen p = and-then (fact-line sizes seen p) (λ c q. Ok ((c, seen), q))
+condition-line Fact sizes seen p = and-then (fact-line sizes seen p) (λ c q. Ok ((c, marked seen c), q))
 condition-line Effect sizes seen p = and-then (effect-line sizes seen p) (λ c q. Ok ((c, marked seen c), q))
 
 abbrev pub next-condition : Form → List ℕ → List Condition × List Bool → Place → Read (List Condition × List Bool)

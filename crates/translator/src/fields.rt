@@ -16,7 +16,7 @@ use task::Kind;
 #[derive(Clone, Copy)]
 pub(crate) struct Bounds {
     pub(crate) low: u32,
-    pub(crate) high: u32,
+    pub(crate) high: usize,
     pub(crate) below: Kind,
     pub(crate) above: Kind,
 }
@@ -31,7 +31,7 @@ impl<'a> Reader<'a> {
         if number < bounds.low {
             return Err(self.fault(bounds.below));
         }
-        if number > bounds.high {
+        if number as usize > bounds.high {
             return Err(self.fault(bounds.above));
         }
         Ok(number)

@@ -29,7 +29,7 @@ impl<'a> Reader<'a> {
         self.keyword(b"begin_variable")?;
         self.text_line()?;
         self.layer_line()?;
-        let most = (WIDEST / span).min(1000) as u32;
+        let most = (WIDEST / span).min(1000) as usize;
         let size = self.number_line(Bounds {
             low: 1,
             high: most,

@@ -6,3 +6,4 @@ pub mod Operators
 pub mod Places
 pub mod Repeats
 pub mod Sizes
+pub mod Starts

@@ -2,13 +2,13 @@
 use mathlib.Core.Path.{_≡_}
 use mathlib.Core.Bool.{Bool}
 use mathlib.Core.List.{List}
-use Prim.Native.Nat.{ℕ}
+use Prim.Native.Nat.{ℕ, _+_, _≤_}
 use lib.ListN.{length, take}
 use Rattle.sas.specs.declared.tables.Condition.{Condition}
 use Rattle.sas.specs.declared.tables.Operator.{Operator}
 use Rattle.sas.specs.declared.tables.Variable.{Variable}
-use Rattle.translator.specs.Description.{DescribedVariable, DescribedOperator, sizes-in, conditions-in}
-use Rattle.translator.specs.Filling.{filled, variable-records, operator-record}
+use Rattle.translator.specs.Description.{DescribedVariable, DescribedOperator, sizes-in, conditions-in, all-conditions}
+use Rattle.translator.specs.Filling.{filled, variable-records, operator-record, operator-records}
 use Rattle.translator.specs.Sound.{SoundSizes}
 
 -- the sizes of the variables are at hand, and their records stand
@@ -32,3 +32,10 @@ pub record GoalFilled (count : ℕ) (write : Bool) (old new : List Condition) (c
 pub record OperatorFilled (first : ℕ) (write : Bool) (old new : List Condition) (r : Operator) (o : DescribedOperator) : Type 0 where
   pub is : r ≡ operator-record first o
   pub laid : new ≡ filled write old first (conditions-in o)
+
+-- the operators' records stand first, and their conditions from `first` up to `used`
+pub record OperatorsFilled (first : ℕ) (write : Bool) (old new : List Operator) (before after : List Condition) (used : ℕ) (os : List DescribedOperator) : Type 0 where
+  pub ends : used ≡ first + length (all-conditions os)
+  pub within : used ≤ length before
+  pub laid : new ≡ filled write old 0 (operator-records first os)
+  pub conditions : after ≡ filled write before first (all-conditions os)

@@ -5,14 +5,14 @@ ghost use mathlib.Core.List.{[]};
 ghost use Prim.Native.Nat.{_+_, _-_, _≤_};
 ghost use lib.ListN.{length};
 ghost use Rattle.std.specs.Vec.{made};
-ghost use Rattle.sas.specs.States.{numbered};
-ghost use Rattle.translator.specs.Filled.{GoalFilled, OperatorFilled};
+ghost use Rattle.translator.specs.Filled.{GoalFilled, OperatorFilled, OperatorsFilled};
 ghost use Rattle.translator.specs.Reads.{Tells, Finds};
 ghost use Rattle.translator.specs.Readers.{place-of};
-ghost use Rattle.translator.specs.Sections.{repeated, mutex-section, next-mutex, mutexes-section, goal-section, cost-line, operator-section};
+ghost use Rattle.translator.specs.Sections.{repeated, mutex-section, next-mutex, mutexes-section, goal-section, cost-line, operator-section, next-operator};
 use crate::cursor::Reader;
 use crate::fields::Bounds;
 use crate::forms::Form;
+use crate::stores::store;
 use sas::Condition;
 use sas::Operator;
 use task::Fault;
@@ -123,5 +123,23 @@ impl<'a> Reader<'a> {
             count: prevail + effects,
             cost,
         })
+    }
+
+    // So many operators, whose conditions begin at `first`: where those of the last one end.
+    pub(crate) fn operator_list(&mut self, count: u32, unit: bool, sizes: &[u32], operators: &mut [Operator], table: &mut [Condition], first: usize, write: bool) -> Result<usize, Fault>
+        requires some { ⌜ 1 ≤ length (now sizes) ⌝ }
+        requires few { ⌜ length (now sizes) ≤ 60 ⌝ }
+        requires room { ⌜ first ≤ length (now table) ⌝ }
+        ensures tells { λ r. ⌜ Finds (λ os n. OperatorsFilled first write (now (operators .entry)) (now (operators .exit)) (now (table .entry)) (now (table .exit)) n os) (repeated (next-operator unit (now (sizes .entry)) (length (now (table .entry)) - first)) count [] (place-of (now (self .entry)))) r (place-of (now (self .exit))) ⌝ }
+        ensures same { λ _. ⌜ (write ≡ false → now (operators .exit) ≡ now (operators .entry)) ⌝ }
+        ensures table_same { λ _. ⌜ (write ≡ false → now (table .exit) ≡ now (table .entry)) ⌝ }
+    {
+        let mut used = first;
+        for at in 0..count {
+            let operator = self.operator(unit, sizes, table, used, write)?;
+            used += operator.count;
+            store(operators, at as usize, operator, write);
+        }
+        Ok(used)
     }
 }

@@ -6,9 +6,11 @@ ghost use Prim.Native.Nat.{_≤_};
 ghost use lib.ListN.{length};
 ghost use Rattle.std.specs.Vec.{made};
 ghost use Rattle.translator.specs.Filled.{VariablesFilled};
+ghost use Rattle.sas.specs.States.{numbered};
+ghost use Rattle.translator.specs.Sound.{SoundSizes};
 ghost use Rattle.translator.specs.Reads.{Tells, Finds};
 ghost use Rattle.translator.specs.Readers.{place-of};
-ghost use Rattle.translator.specs.Sections.{repeated, variable-section, next-variable, most-values};
+ghost use Rattle.translator.specs.Sections.{repeated, variable-section, next-variable, most-values, start-line, state-section};
 use crate::cursor::Reader;
 use crate::fields::Bounds;
 use crate::stores::store;
@@ -61,5 +63,37 @@ impl<'a> Reader<'a> {
             span *= u64::from(size);
         }
         Ok(())
+    }
+
+    // A value for each variable: the number of the state that has them.
+    pub(crate) fn start_values(&mut self, sizes: &[u32]) -> Result<u64, Fault>
+        requires { ⌜ SoundSizes (now sizes) ⌝ }
+        ensures { λ r. ⌜ Finds (λ vs n. n ≡ numbered (now (sizes .entry)) vs) (repeated (start-line (now (sizes .entry))) (length (now (sizes .entry))) [] (place-of (now (self .entry)))) r (place-of (now (self .exit))) ⌝ }
+    {
+        let mut number: u64 = 0;
+        let mut weight: u64 = 1;
+        for at in 0..sizes.len() {
+            let size = sizes[at];
+            let value = self.number_line(Bounds {
+                low: 0,
+                high: size.saturating_sub(1) as usize,
+                below: Kind::BadNumber,
+                above: Kind::BadNumber,
+            })?;
+            number += weight * u64::from(value);
+            weight *= u64::from(size);
+        }
+        Ok(number)
+    }
+
+    // The start state: its number.
+    pub(crate) fn state(&mut self, sizes: &[u32]) -> Result<u64, Fault>
+        requires { ⌜ SoundSizes (now sizes) ⌝ }
+        ensures { λ r. ⌜ Finds (λ vs n. n ≡ numbered (now (sizes .entry)) vs) (state-section (now (sizes .entry)) (place-of (now (self .entry)))) r (place-of (now (self .exit))) ⌝ }
+    {
+        self.keyword(b"begin_state")?;
+        let number = self.start_values(sizes)?;
+        self.keyword(b"end_state")?;
+        Ok(number)
     }
 }

@@ -7,3 +7,4 @@ pub mod Places
 pub mod Repeats
 pub mod Sizes
 pub mod Starts
+pub mod Wholes

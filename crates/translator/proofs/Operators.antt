@@ -69,15 +69,13 @@ whole f = repeated (step f) (f .count) [] (f .start)
 
 pub record Sofar (f : Frame) (i : ℕ) (p : Place) (operators : List Operator) (table : List Condition) (used : ℕ) (os : List DescribedOperator) : Type 0 where
   pub on : whole f ≡ repeated (step f) (f .count - i) os p
-  pub long : length os ≡ i
-  pub filled-up : OperatorsFilled (f .first) (f .write) (f .operators) operators (f .table) table used os
+  pub filled-up : OperatorsFilled i (f .first) (f .write) (f .operators) operators (f .table) table used os
 
 pub none-yet : (f : Frame) → f .first ≤ length (f .table) → Sofar f 0 (f .start) (f .operators) (f .table) (f .first) []
 none-yet f h =
     record {
       on = ap (λ n. repeated (step f) n [] (f .start)) (omega arith);
-      long = refl;
-      filled-up = record { ends = omega arith; within = h; laid = none-filled (f .write) (f .operators) 0; conditions = none-filled (f .write) (f .table) (f .first) };
+      filled-up = record { long = refl; ends = omega arith; within = h; laid = none-filled (f .write) (f .operators) 0; conditions = none-filled (f .write) (f .table) (f .first) };
     }
 
 module _ {f : Frame} {i : ℕ} {p : Place} {operators : List Operator} {table : List Condition} {used : ℕ} {os : List DescribedOperator} (so : Sofar f i p operators table used os) (same-length : length table ≡ length (f .table)) where
@@ -90,12 +88,12 @@ module _ {f : Frame} {i : ℕ} {p : Place} {operators : List Operator} {table : 
       let ends = so .filled-up .ends in
       let count : r .count ≡ length (conditions-in o) = ap (λ (x : Operator). x .count) (there .is) in
       let more : length (all-conditions (os ++ o ∷ [])) ≡ length (all-conditions os) + length (conditions-in o) = ap length (all-conditions-push os o) ∙ length-append (all-conditions os) (conditions-in o) in
-      let place : i ≡ 0 + length (operator-records (f .first) os) = omega (arith, so .long, length-operator-records (f .first) os) in
+      let place : i ≡ 0 + length (operator-records (f .first) os) = omega (arith, so .filled-up .long, length-operator-records (f .first) os) in
       record {
         on = repeat-on (step f) (f .count) i os p _ h (so .on) (os ++ o ∷ []) q (chain _ (subst (λ k. operator-section (f .unit) (f .sizes) k p ≡ Ok (o, q)) room-left reads) refl);
-        long = length-push os o ∙ ap (λ k. k + 1) (so .long);
         filled-up =
           record {
+            long = length-push os o ∙ ap (λ k. k + 1) (so .filled-up .long);
             ends = omega (arith, ends, count, more);
             within = omega (arith, within, same-length);
             laid =
@@ -112,5 +110,5 @@ module _ {f : Frame} {i : ℕ} {p : Place} {operators : List Operator} {table : 
   pub operator-fault : i < f .count → (e : Fault) → operator-section (f .unit) (f .sizes) (length table - used) p ≡ Err e → whole f ≡ Err e
   operator-fault h e reads = repeat-fault (step f) (f .count) i os p _ h (so .on) e (stop _ (subst (λ k. operator-section (f .unit) (f .sizes) k p ≡ Err e) room-left reads))
 
-  pub operators-done : f .count ≤ i → whole f ≡ Ok (os, p)
-  operators-done h = repeat-done (step f) (f .count) i os p _ h (so .on)
+  pub operators-done : i ≡ f .count → (whole f ≡ Ok (os, p)) × OperatorsFilled (f .count) (f .first) (f .write) (f .operators) operators (f .table) table used os
+  operators-done e = (repeat-done (step f) (f .count) i os p _ (omega arith) (so .on), subst (λ n. OperatorsFilled n (f .first) (f .write) (f .operators) operators (f .table) table used os) e (so .filled-up))

@@ -166,19 +166,19 @@ pub record Room : Type 0 where
   pub conditions : ℕ
 
 abbrev pub variables-section : ℕ → Place → Read (List DescribedVariable)
-variables-section room p = and-then (number-line 1 (min 60 room) BadNumber OverLimit p) (λ n q. repeated next-variable n [] q)
+variables-section room p = and-then (number-line 1 (min room 60) BadNumber OverLimit p) (λ n q. repeated next-variable n [] q)
 
 abbrev pub operators-section : Bool → List ℕ → ℕ → ℕ → Place → Read (List DescribedOperator)
-operators-section unit sizes room left p = and-then (number-line 0 (min 4096 room) OverLimit OverLimit p) (λ n q. repeated (next-operator unit sizes left) n [] q)
+operators-section unit sizes room left p = and-then (number-line 0 (min room 4096) OverLimit OverLimit p) (λ n q. repeated (next-operator unit sizes left) n [] q)
 
 -- the goal, the operators, no axioms, and nothing after them
-abbrev pub rest-of-file : Room → Bool → List DescribedVariable → List (List Condition) → List ℕ → Place → Read Description
-rest-of-file room unit vs gs start p =
-    and-then (goal-section (sizes-in vs) (room .conditions) p) (λ goal q. and-then (operators-section unit (sizes-in vs) (room .operators) (room .conditions - length goal) q) (λ os q. and-then (number-line 0 0 NotCarried NotCarried q) (λ n q. and-then (file-end q) (λ e q. Ok (record { unit = unit; variables = vs; mutexes = gs; start = start; goal = goal; operators = os }, q)))))
+abbrev pub rest-of-file : Room → Bool → List ℕ → Place → Read (List Condition × List DescribedOperator)
+rest-of-file room unit sizes p =
+    and-then (goal-section sizes (room .conditions) p) (λ goal q. and-then (operators-section unit sizes (room .operators) (room .conditions - length goal) q) (λ os q. and-then (number-line 0 0 NotCarried NotCarried q) (λ n q. and-then (file-end q) (λ e q. Ok ((goal, os), q)))))
 
 abbrev pub whole-file : Room → Place → Read Description
 whole-file room p =
-    and-then (version-section p) (λ u q. and-then (metric-section q) (λ unit q. and-then (variables-section (room .variables) q) (λ vs q. and-then (mutexes-section (sizes-in vs) q) (λ gs q. and-then (state-section (sizes-in vs) q) (λ start q. rest-of-file room unit vs gs start q)))))
+    and-then (version-section p) (λ u q. and-then (metric-section q) (λ unit q. and-then (variables-section (room .variables) q) (λ vs q. and-then (mutexes-section (sizes-in vs) q) (λ gs q. and-then (state-section (sizes-in vs) q) (λ start q. and-then (rest-of-file room unit (sizes-in vs) q) (λ r q. Ok (record { unit = unit; variables = vs; mutexes = gs; start = start; goal = r .0; operators = r .1 }, q)))))))
 
 abbrev pub without-place : Read Description → Result Description Fault
 without-place (Ok x) = Ok (x .0)

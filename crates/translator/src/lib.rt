@@ -2,6 +2,7 @@
 mod conditions;
 mod cursor;
 mod fields;
+mod files;
 mod forms;
 mod lines;
 mod numerals;

@@ -130,7 +130,7 @@ impl<'a> Reader<'a> {
         requires some { ⌜ 1 ≤ length (now sizes) ⌝ }
         requires few { ⌜ length (now sizes) ≤ 60 ⌝ }
         requires room { ⌜ first ≤ length (now table) ⌝ }
-        ensures tells { λ r. ⌜ Finds (λ os n. OperatorsFilled first write (now (operators .entry)) (now (operators .exit)) (now (table .entry)) (now (table .exit)) n os) (repeated (next-operator unit (now (sizes .entry)) (length (now (table .entry)) - first)) count [] (place-of (now (self .entry)))) r (place-of (now (self .exit))) ⌝ }
+        ensures tells { λ r. ⌜ Finds (λ os n. OperatorsFilled count first write (now (operators .entry)) (now (operators .exit)) (now (table .entry)) (now (table .exit)) n os) (repeated (next-operator unit (now (sizes .entry)) (length (now (table .entry)) - first)) count [] (place-of (now (self .entry)))) r (place-of (now (self .exit))) ⌝ }
         ensures same { λ _. ⌜ (write ≡ false → now (operators .exit) ≡ now (operators .entry)) ⌝ }
         ensures table_same { λ _. ⌜ (write ≡ false → now (table .exit) ≡ now (table .entry)) ⌝ }
     {

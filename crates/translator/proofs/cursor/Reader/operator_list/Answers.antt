@@ -27,9 +27,10 @@ loop-at-again c = let told = c .in-Continue-operator .ensures tt in (_, one-more
 pub returns : need.returns
 returns c =
     let so = c .loop-at .inv .1 in
+    let done = operators-done so (omega arith) (omega arith) in
     let os = c .loop-at .inv .0 in
     record {
-      tells = (os, operators-done so (omega arith) (c .loop-at-test .left), so .filled-up);
+      tells = (os, done .0, done .1);
       same = unfilled (c .args .write) _ _ 0 (operator-records (c .args .first) os) (so .filled-up .laid);
       table-same = unfilled (c .args .write) _ _ (c .args .first) (all-conditions os) (so .filled-up .conditions);
     }

@@ -3,6 +3,7 @@ pub mod Digits
 pub mod Facts
 pub mod Fills
 pub mod Operators
+pub mod Passes
 pub mod Places
 pub mod Repeats
 pub mod Sizes

@@ -92,19 +92,19 @@ module _ {f : Frame} {i : ℕ} {p : Place} {operators : List Operator} {table : 
       record {
         on = repeat-on (step f) (f .count) i os p _ h (so .on) (os ++ o ∷ []) q (chain _ (subst (λ k. operator-section (f .unit) (f .sizes) k p ≡ Ok (o, q)) room-left reads) refl);
         filled-up =
-          record {
-            long = length-push os o ∙ ap (λ k. k + 1) (so .filled-up .long);
-            ends = omega (arith, ends, count, more);
-            within = omega (arith, within, same-length);
-            laid =
-              stored ∙ ap (λ x. cond (f .write) (set operators i x) operators) (there .is ∙ ap (λ k. operator-record k o) ends)
-              ∙ ap (λ k. cond (f .write) (set operators k (operator-record (f .first + length (all-conditions os)) o)) operators) place
-              ∙ filled-more (f .write) (f .operators) operators 0 (operator-records (f .first) os) (operator-record (f .first + length (all-conditions os)) o) (so .filled-up .laid)
-              ∙ ap (filled (f .write) (f .operators) 0) (sym (operator-records-push (f .first) os o));
-            conditions =
-              filled-append (f .write) (f .table) table table′ (f .first) (all-conditions os) (conditions-in o) (so .filled-up .conditions) (there .laid ∙ ap (λ k. filled (f .write) table k (conditions-in o)) ends)
-              ∙ ap (filled (f .write) (f .table) (f .first)) (sym (all-conditions-push os o));
-          };
+            record {
+              long = length-push os o ∙ ap (λ k. k + 1) (so .filled-up .long);
+              ends = omega (arith, ends, count, more);
+              within = omega (arith, within, same-length);
+              laid =
+                  stored ∙ ap (λ x. cond (f .write) (set operators i x) operators) (there .is ∙ ap (λ k. operator-record k o) ends)
+                  ∙ ap (λ k. cond (f .write) (set operators k (operator-record (f .first + length (all-conditions os)) o)) operators) place
+                  ∙ filled-more (f .write) (f .operators) operators 0 (operator-records (f .first) os) (operator-record (f .first + length (all-conditions os)) o) (so .filled-up .laid)
+                  ∙ ap (filled (f .write) (f .operators) 0) (sym (operator-records-push (f .first) os o));
+              conditions =
+                  filled-append (f .write) (f .table) table table′ (f .first) (all-conditions os) (conditions-in o) (so .filled-up .conditions) (there .laid ∙ ap (λ k. filled (f .write) table k (conditions-in o)) ends)
+                  ∙ ap (filled (f .write) (f .table) (f .first)) (sym (all-conditions-push os o));
+            };
       }
 
   pub operator-fault : i < f .count → (e : Fault) → operator-section (f .unit) (f .sizes) (length table - used) p ≡ Err e → whole f ≡ Err e

@@ -89,9 +89,9 @@ module _ (ns : List ℕ) (sound : SoundSizes ns) where
             inside = omega arith;
             weighs = wider′ ∙ sym next-front;
             is =
-              summed′ ∙ ap (λ x. x + weight * v) (so .is) ∙ ap (λ w. numbered (take i ns) vs + w * v) (so .weighs ∙ omega (arith, mul-comm 1 (spanned (take i ns)), mul-one (spanned (take i ns))))
-              ∙ sym (summed-push 1 (take i ns) vs (getD ns i 0) v (so .long ∙ sym (length-take-le i ns (so .inside))))
-              ∙ ap (λ l. numbered l (vs ++ v ∷ [])) (sym (take-more ns i 0 here));
+                summed′ ∙ ap (λ x. x + weight * v) (so .is) ∙ ap (λ w. numbered (take i ns) vs + w * v) (so .weighs ∙ omega (arith, mul-comm 1 (spanned (take i ns)), mul-one (spanned (take i ns))))
+                ∙ sym (summed-push 1 (take i ns) vs (getD ns i 0) v (so .long ∙ sym (length-take-le i ns (so .inside))))
+                ∙ ap (λ l. numbered l (vs ++ v ∷ [])) (sym (take-more ns i 0 here));
             below = omega (arith, fits .0, summed′, wider′);
           }
 

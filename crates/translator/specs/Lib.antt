@@ -7,3 +7,4 @@ pub mod Readers
 pub mod Reads
 pub mod Sections
 pub mod Sound
+pub mod Taken

@@ -117,7 +117,12 @@ impl<'a> Reader<'a> {
     }
 
     // A condition of this form; its variable has then been seen, but in a mutex group.
-    pub(crate) fn condition_line(&mut self, form: Form, sizes: &[u32], seen: &mut [bool]) -> Result<Condition, Fault>
+    pub(crate) fn condition_line(
+        &mut self,
+        form: Form,
+        sizes: &[u32],
+        seen: &mut [bool],
+    ) -> Result<Condition, Fault>
         requires some { ⌜ 1 ≤ length (now sizes) ⌝ }
         requires seen { ⌜ length (now sizes) ≤ length (now seen) ⌝ }
         ensures { λ r. ⌜ Tells (λ v. (v, now (seen .exit))) (condition-line form (now (sizes .entry)) (now (seen .entry)) (place-of (now (self .entry)))) r (place-of (now (self .exit))) ⌝ }
@@ -132,7 +137,16 @@ impl<'a> Reader<'a> {
     }
 
     // So many conditions of this form: in the pass that writes their records stand from `first` on.
-    pub(crate) fn conditions(&mut self, form: Form, count: u32, sizes: &[u32], seen: &mut [bool], table: &mut [Condition], first: usize, write: bool) -> Result<(), Fault>
+    pub(crate) fn conditions(
+        &mut self,
+        form: Form,
+        count: u32,
+        sizes: &[u32],
+        seen: &mut [bool],
+        table: &mut [Condition],
+        first: usize,
+        write: bool,
+    ) -> Result<(), Fault>
         requires some { ⌜ 1 ≤ length (now sizes) ⌝ }
         requires seen { ⌜ length (now sizes) ≤ length (now seen) ⌝ }
         requires room { ⌜ first + count < 2 ^ 64 ⌝ }
@@ -147,7 +161,16 @@ impl<'a> Reader<'a> {
     }
 
     // Their number, which is at most `room`, and then the conditions.
-    pub(crate) fn condition_section(&mut self, form: Form, room: usize, sizes: &[u32], seen: &mut [bool], table: &mut [Condition], first: usize, write: bool) -> Result<usize, Fault>
+    pub(crate) fn condition_section(
+        &mut self,
+        form: Form,
+        room: usize,
+        sizes: &[u32],
+        seen: &mut [bool],
+        table: &mut [Condition],
+        first: usize,
+        write: bool,
+    ) -> Result<usize, Fault>
         requires some { ⌜ 1 ≤ length (now sizes) ⌝ }
         requires seen { ⌜ length (now sizes) ≤ length (now seen) ⌝ }
         requires room { ⌜ first + room < 2 ^ 64 ⌝ }

@@ -10,4 +10,5 @@ mod sections;
 mod stores;
 mod variables;
 
+pub use files::read;
 pub use numerals::numeral;

@@ -31,7 +31,15 @@ impl<'a> Reader<'a> {
         let mut seen = [false; 60];
         let mut none: [Condition; 0] = [];
         self.keyword(b"begin_mutex_group")?;
-        self.condition_section(Form::Mutex, UNLIMITED, sizes, &mut seen, &mut none, 0, false)?;
+        self.condition_section(
+            Form::Mutex,
+            UNLIMITED,
+            sizes,
+            &mut seen,
+            &mut none,
+            0,
+            false,
+        )?;
         self.keyword(b"end_mutex_group")
     }
 
@@ -63,7 +71,12 @@ impl<'a> Reader<'a> {
     }
 
     // The goal: how many conditions it has. In the pass that writes their records stand first.
-    pub(crate) fn goal(&mut self, sizes: &[u32], table: &mut [Condition], write: bool) -> Result<usize, Fault>
+    pub(crate) fn goal(
+        &mut self,
+        sizes: &[u32],
+        table: &mut [Condition],
+        write: bool,
+    ) -> Result<usize, Fault>
         requires some { ⌜ 1 ≤ length (now sizes) ⌝ }
         requires few { ⌜ length (now sizes) ≤ 60 ⌝ }
         ensures tells { λ r. ⌜ Finds (λ cs n. GoalFilled n write (now (table .entry)) (now (table .exit)) cs) (goal-section (now (sizes .entry)) (length (now (table .entry))) (place-of (now (self .entry)))) r (place-of (now (self .exit))) ⌝ }
@@ -100,7 +113,14 @@ impl<'a> Reader<'a> {
     }
 
     // An operator, whose conditions begin at `first`. In the pass that writes their records stand there.
-    pub(crate) fn operator(&mut self, unit: bool, sizes: &[u32], table: &mut [Condition], first: usize, write: bool) -> Result<Operator, Fault>
+    pub(crate) fn operator(
+        &mut self,
+        unit: bool,
+        sizes: &[u32],
+        table: &mut [Condition],
+        first: usize,
+        write: bool,
+    ) -> Result<Operator, Fault>
         requires some { ⌜ 1 ≤ length (now sizes) ⌝ }
         requires few { ⌜ length (now sizes) ≤ 60 ⌝ }
         requires room { ⌜ first ≤ length (now table) ⌝ }
@@ -112,8 +132,24 @@ impl<'a> Reader<'a> {
         let room = table.len() - first;
         self.keyword(b"begin_operator")?;
         let (name, name_length) = self.text_line()?;
-        let prevail = self.condition_section(Form::Fact, room, sizes, &mut seen, table, first, write)?;
-        let effects = self.condition_section(Form::Effect, room - prevail, sizes, &mut seen, table, first + prevail, write)?;
+        let prevail = self.condition_section(
+            Form::Fact,
+            room,
+            sizes,
+            &mut seen,
+            table,
+            first,
+            write,
+        )?;
+        let effects = self.condition_section(
+            Form::Effect,
+            room - prevail,
+            sizes,
+            &mut seen,
+            table,
+            first + prevail,
+            write,
+        )?;
         let cost = self.cost(unit)?;
         self.keyword(b"end_operator")?;
         Ok(Operator {
@@ -126,7 +162,16 @@ impl<'a> Reader<'a> {
     }
 
     // So many operators, whose conditions begin at `first`: where those of the last one end.
-    pub(crate) fn operator_list(&mut self, count: u32, unit: bool, sizes: &[u32], operators: &mut [Operator], table: &mut [Condition], first: usize, write: bool) -> Result<usize, Fault>
+    pub(crate) fn operator_list(
+        &mut self,
+        count: u32,
+        unit: bool,
+        sizes: &[u32],
+        operators: &mut [Operator],
+        table: &mut [Condition],
+        first: usize,
+        write: bool,
+    ) -> Result<usize, Fault>
         requires some { ⌜ 1 ≤ length (now sizes) ⌝ }
         requires few { ⌜ length (now sizes) ≤ 60 ⌝ }
         requires room { ⌜ first ≤ length (now table) ⌝ }

@@ -49,12 +49,11 @@ returns c =
     let sized = in-use (front .tells .2) in
     let rest = c .in-Continue-actions .ensures tt in
     record {
-      tells =
-        (
-          _,
-          chain _ (c .in-Continue-version .ensures tt) (chain _ (c .in-Continue-unit-cost .ensures tt) (chain _ (front .tells .1) (chain _ (subst (λ ns. mutexes-section ns (place-of (c .variables .last .self)) ≡ Ok (c .in-Continue-mutexes .ensures tt .0, place-of (c .mutexes .last .self))) sized (c .in-Continue-mutexes .ensures tt .1)) (chain _ (subst (λ ns. state-section ns (place-of (c .mutexes .last .self)) ≡ Ok (c .in-Continue-start .ensures tt .0, place-of (c .state .last .self))) sized (c .in-Continue-start .ensures tt .1)) (chain _ (subst (λ ns. rest-of-file (record { variables = 0; operators = length (c .args .operators .now); conditions = length (c .args .conditions .now) }) (c .in-Continue-unit-cost .unit-cost) ns (place-of (c .state .last .self)) ≡ Ok (rest .tells .0, place-of (c .rest .last .self))) sized (rest .tells .1)) refl))))),
-          file-filled (c .in-Continue-unit-cost .unit-cost) (c .in-Continue-mutexes .ensures tt .0) (front .tells .2) (front .within .1) (front .within .2) (omega arith) (c .in-Continue-start .ensures tt .2) (rest .tells .2),
-        );
+      tells = (
+        _,
+        chain _ (c .in-Continue-version .ensures tt) (chain _ (c .in-Continue-unit-cost .ensures tt) (chain _ (front .tells .1) (chain _ (subst (λ ns. mutexes-section ns (place-of (c .variables .last .self)) ≡ Ok (c .in-Continue-mutexes .ensures tt .0, place-of (c .mutexes .last .self))) sized (c .in-Continue-mutexes .ensures tt .1)) (chain _ (subst (λ ns. state-section ns (place-of (c .mutexes .last .self)) ≡ Ok (c .in-Continue-start .ensures tt .0, place-of (c .state .last .self))) sized (c .in-Continue-start .ensures tt .1)) (chain _ (subst (λ ns. rest-of-file (record { variables = 0; operators = length (c .args .operators .now); conditions = length (c .args .conditions .now) }) (c .in-Continue-unit-cost .unit-cost) ns (place-of (c .state .last .self)) ≡ Ok (rest .tells .0, place-of (c .rest .last .self))) sized (rest .tells .1)) refl))))),
+        file-filled (c .in-Continue-unit-cost .unit-cost) (c .in-Continue-mutexes .ensures tt .0) (front .tells .2) (front .within .1) (front .within .2) (omega arith) (c .in-Continue-start .ensures tt .2) (rest .tells .2),
+      );
       variables-same = front .same;
       operators-same = rest .same;
       conditions-same = rest .conditions-same;

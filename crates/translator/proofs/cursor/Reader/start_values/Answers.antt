@@ -32,12 +32,11 @@ mul-weight c =
     omega (arith, f .1, ap (λ v. c .loop-at .weight * v) (c .from-weight .ensures))
 
 pub loop-at-again : need.loop-at-again
-loop-at-again c =
-    (
-      c .loop-at .inv .0,
-      _,
-      one-more _ _ (c .loop-at .inv .2) (c .loop-at-test .taken) _ (small (need.at·loop-at-again c .In-Continue-value)) _ refl _ (rw (c .saturating-sub .ensures) at (c .in-Continue-value .ensures tt .tells)) _ _ (ap (λ v. c .loop-at .number + c .loop-at .weight * v) (c .from .ensures)) (ap (λ v. c .loop-at .weight * v) (c .from-weight .ensures)),
-    )
+loop-at-again c = (
+  c .loop-at .inv .0,
+  _,
+  one-more _ _ (c .loop-at .inv .2) (c .loop-at-test .taken) _ (small (need.at·loop-at-again c .In-Continue-value)) _ refl _ (rw (c .saturating-sub .ensures) at (c .in-Continue-value .ensures tt .tells)) _ _ (ap (λ v. c .loop-at .number + c .loop-at .weight * v) (c .from .ensures)) (ap (λ v. c .loop-at .weight * v) (c .from-weight .ensures)),
+)
 
 pub returns : need.returns
 returns c =

@@ -2,3 +2,5 @@ pub mod States
 pub mod Actions
 pub mod Sas
 pub mod Tables
+pub mod Checks
+pub mod Values

@@ -1,6 +1,9 @@
 // SAS+ tasks: the tables that hold one, and the task that they make.
+mod shape;
 mod tables;
+mod values;
 
+pub use shape::SasTask;
 pub use tables::Condition;
 pub use tables::Operator;
 pub use tables::Reading;

@@ -1,3 +1,5 @@
 pub mod Members
+pub mod Tested
 pub mod Assigned
 pub mod Walks
+pub mod Ranges

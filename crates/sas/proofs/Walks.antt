@@ -1,6 +1,6 @@
 -- One turn of each walk over variables or conditions. Assumes nothing.
 use mathlib.Core.Path.{_≡_, sym, ap, subst, _∙_}
-use mathlib.Core.Bool.{Bool, true, false, _&&_}
+use mathlib.Core.Bool.{Bool}
 use mathlib.Core.List.{List, [], _∷_, _++_, map}
 use Prim.Native.Nat.{ℕ, _+_, _*_, _/_, _%_, _^_, _≤_, _<_}
 use native.Mathlib.Nat.{mul-assoc, mul-one, one-mul}
@@ -12,8 +12,9 @@ use Rattle.std.specs.declared.option.Option.the-variants.{None}
 use Rattle.task.specs.Listing.{Each}
 use Rattle.sas.specs.declared.tables.Variable.{Variable}
 use Rattle.sas.specs.declared.tables.Condition.{Condition}
+use Rattle.sas.specs.declared.tables.Operator.{Operator}
 use Rattle.sas.specs.States.{spanned, values, summed, numbered}
-use Rattle.sas.specs.Actions.{suits, applies, renewed, changed}
+use Rattle.sas.specs.Actions.{suits, renewed, changed}
 use Rattle.sas.specs.Values.{Below, Sized, Within, sizes}
 use Rattle.sas.proofs.Members.{each-at, each-drop}
 use Rattle.sas.proofs.Assigned.{spanned-positive, length-below, below-sized, numbered-below}
@@ -23,6 +24,13 @@ no-variable = record { size = 0 }
 
 abbrev pub no-condition : Condition
 no-condition = record { variable = 0; before = None; after = None }
+
+abbrev pub no-operator : Operator
+no-operator = record { name = 0; «name_length» = 0; first = 0; count = 0; cost = 0 }
+
+-- whether the condition has the value that it asks for
+abbrev pub met : List ℕ → Condition → Bool
+met vs c = suits (c .before) (getD vs (c .variable) 0)
 
 pub size-positive : (vs : List Variable) (i : ℕ) → i < length vs → Sized (sizes vs) → 0 < getD vs i no-variable .size
 size-positive vs i h e =
@@ -42,15 +50,6 @@ pub decode-all : (vars : List Variable) (vals : List ℕ) (i rest : ℕ) → len
 decode-all vars vals i rest h l =
     ap (λ l. l ++ values (sizes (drop i vars)) rest) (take-all i vals (omega arith))
     ∙ (ap (λ l. vals ++ l) (at-drop-all (λ vs. values (sizes vs) rest) vars i h) ∙ append-nil vals)
-
-pub applies-more : (cs : List Condition) (vs : List ℕ) (i : ℕ) → i < length cs → suits (getD cs i no-condition .before) (getD vs (getD cs i no-condition .variable) 0) ≡ true → applies (drop i cs) vs ≡ applies (drop (i + 1) cs) vs
-applies-more cs vs i h e = at-drop-more (λ l. applies l vs) cs i no-condition h ∙ ap (λ b. b && applies (drop (i + 1) cs) vs) e
-
-pub applies-stops : (cs : List Condition) (vs : List ℕ) (i : ℕ) → i < length cs → suits (getD cs i no-condition .before) (getD vs (getD cs i no-condition .variable) 0) ≡ false → applies (drop i cs) vs ≡ false
-applies-stops cs vs i h e = at-drop-more (λ l. applies l vs) cs i no-condition h ∙ ap (λ b. b && applies (drop (i + 1) cs) vs) e
-
-pub applies-all : (cs : List Condition) (vs : List ℕ) (i : ℕ) → length cs ≤ i → applies (drop i cs) vs ≡ true
-applies-all cs vs i h = at-drop-all (λ l. applies l vs) cs i h
 
 pub changed-more : (cs : List Condition) (vs : List ℕ) (i : ℕ) → i < length cs → changed (drop i cs) vs ≡ changed (drop (i + 1) cs) (renewed (getD cs i no-condition .after) (getD cs i no-condition .variable) vs)
 changed-more cs vs i h = at-drop-more (λ l. changed l vs) cs i no-condition h

@@ -49,12 +49,19 @@ counts-fit used variables operators conditions =
 abbrev pub tables-count : Tables → Bool
 tables-count t = counts-fit (t .used) (length (t .variables)) (length (t .operators)) (length (t .conditions))
 
--- the records in use, and the start state, where the sizes have this product, if they have one
-abbrev pub records-fit : Tables → Option ℕ → Option ℕ
-records-fit t None = None
-records-fit t (Some span) =
-    cond (ltb (t .used .start) span && (each (condition-fits (sizes-of t)) (take (t .used .conditions) (t .conditions)) && each (operator-fits (length (t .bytes)) (t .used .conditions)) (used-operators t))) (Some span) None
+-- the start state and the records in use, for variables of these sizes and a file of so many bytes
+abbrev pub records-fit : List ℕ → List Condition → List Operator → ℕ → Reading → ℕ → Bool
+records-fit ns cs os bytes used span =
+    ltb (used .start) span && (each (condition-fits ns) cs && each (operator-fits bytes (used .conditions)) os)
+
+abbrev pub tables-fit : Tables → ℕ → Bool
+tables-fit t span = records-fit (sizes-of t) (take (t .used .conditions) (t .conditions)) (used-operators t) (length (t .bytes)) (t .used) span
+
+-- the product of the sizes, if there is one and the records fit
+abbrev pub fitting : Tables → Option ℕ → Option ℕ
+fitting t None = None
+fitting t (Some span) = cond (tables-fit t span) (Some span) None
 
 -- the span of tables in range
 abbrev pub range : Tables → Option ℕ
-range t = cond (tables-count t) (records-fit t (product 1 (sizes-of t))) None
+range t = cond (tables-count t) (fitting t (product 1 (sizes-of t))) None

@@ -6,3 +6,4 @@ pub mod Ranges
 pub mod Found
 pub mod Acts
 pub mod Lawful
+pub mod Scanned

@@ -4,3 +4,5 @@ pub mod Sas
 pub mod Tables
 pub mod Checks
 pub mod Values
+pub mod Scans
+pub mod Meaning

@@ -1,4 +1,5 @@
 // SAS+ tasks: the tables that hold one, and the task that they make.
+mod moves;
 mod range;
 mod shape;
 mod tables;

@@ -7,3 +7,5 @@ pub mod Found
 pub mod Acts
 pub mod Lawful
 pub mod Scanned
+pub mod Makes
+pub mod Answered

@@ -1,24 +1,26 @@
 -- Conditions that fit, and one turn of the scan for an operator. Assumes nothing.
 use mathlib.Core.Path.{_≡_, refl, sym, ap, subst, _∙_}
-use mathlib.Core.Bool.{Bool, true, false, cond}
+use mathlib.Core.Bool.{Bool, true, false, cond, _&&_}
 use mathlib.Core.Logic.{⊎-elim}
-use mathlib.Core.List.{List}
-use Prim.Native.Nat.{ℕ, _+_, _≤_, _<_}
+use mathlib.Core.List.{List, [], _∷_, map}
+use Prim.Native.Nat.{ℕ, suc, zero, _+_, _≤_, _<_}
 use native.Mathlib.Omega.{arith}
 use lib.ListN.{length, getD}
 use Rattle.std.proofs.shelf.Lists.{length-map}
-use Rattle.std.proofs.shelf.Tests.{cond-true, cond-false}
+use Rattle.std.proofs.shelf.Tests.{cond-true, cond-false, lt-ltb}
 use Rattle.std.proofs.str.Laws.{order}
 use Rattle.std.specs.declared.option.Option.{Option}
 use Rattle.std.specs.declared.option.Option.the-variants.{Some, None}
+use Rattle.task.specs.Model.{Model}
+use Rattle.task.specs.Moves.{FirstMove}
 use Rattle.task.specs.Listing.{Each}
 use Rattle.sas.specs.declared.tables.Variable.{Variable}
 use Rattle.sas.specs.declared.tables.Condition.{Condition}
 use Rattle.sas.specs.declared.tables.Operator.{Operator}
 use Rattle.sas.specs.Actions.{applies, changed}
-use Rattle.sas.specs.Sas.{nth}
-use Rattle.sas.specs.States.{values, numbered}
-use Rattle.sas.specs.Tables.{ConditionFits, part}
+use Rattle.sas.specs.Sas.{nth, moved}
+use Rattle.sas.specs.States.{spanned, values, numbered}
+use Rattle.sas.specs.Tables.{ConditionFits, part, action-of}
 use Rattle.sas.specs.Values.{Below, Sized, Within, sizes}
 use Rattle.sas.specs.Scans.{acts, led, FirstActing, FirstLed, Placed, Fitted}
 use Rattle.sas.proofs.Acts.{nth-there, nth-past}
@@ -77,3 +79,14 @@ module _ (ns : List ℕ) (cs : List Condition) (os : List Operator) (s from : �
       let act : acts cs (values ns s) (nth os f) ≡ true = ap (λ v. acts cs v (nth os f)) (sym e) ∙ a .2 in
       let same : n ≡ numbered ns (changed ds (values ns s)) = m ∙ ap (λ v. numbered ns (changed ds v)) e in
       (a .0, led-there cs os f (a .1) ds d ns s act ∙ ap Some (sym same), λ o h l. led-nowhere ns cs s (nth os o) (ap (λ v. acts cs v (nth os o)) (sym e) ∙ a .3 o h l))
+
+-- in a state, where an operator leads is where its action does
+pub led-moved : (ns : List ℕ) (cs : List Condition) (s : ℕ) → s < spanned ns → (os : List Operator) (o : ℕ) → led ns cs s (nth os o) ≡ moved ns (nth (map (action-of cs) os) o) s
+led-moved ns cs s h [] o = refl
+led-moved ns cs s h (x ∷ os) zero =
+    ap (λ b. cond (b && applies (part cs (x .first) (x .count)) (values ns s)) (Some (numbered ns (changed (part cs (x .first) (x .count)) (values ns s)))) None) (sym (lt-ltb s (spanned ns) h))
+led-moved ns cs s h (x ∷ os) (suc o) = led-moved ns cs s h os o
+
+pub first-moves : (m : Model) (s from : ℕ) (lead : ℕ → Option ℕ) → ((o : ℕ) → lead o ≡ m .move s o) → (r : Option (ℕ × ℕ)) → FirstLed lead from r → FirstMove m s from r
+first-moves m s from lead e None f = λ o h. sym (e o) ∙ f o h
+first-moves m s from lead e (Some found) f = (f .0, sym (e (found .0)) ∙ f .1, λ o h l. sym (e o) ∙ f .2 o h l)

@@ -6,6 +6,8 @@ mod tables;
 mod values;
 
 pub use shape::SasTask;
+pub use shape::SasTaskCalls;
+pub use shape::SasTaskNames;
 pub use tables::Condition;
 pub use tables::Operator;
 pub use tables::Reading;

@@ -8,6 +8,11 @@ use crate::tables::Operator;
 use crate::tables::Reading;
 use crate::tables::Variable;
 
+mod calls;
+
+pub use calls::SasTaskCalls;
+pub use calls::SasTaskNames;
+
 // The task of the tables where `made`, and the empty task where not; `span` is its number of states.
 #[derive(Clone, Copy)]
 pub struct SasTask<'a> {

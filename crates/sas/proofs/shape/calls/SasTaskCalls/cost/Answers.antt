@@ -7,7 +7,7 @@ use Rattle.sas.proofs.shape.calls.SasTaskCalls.cost.Needs as need
 use Rattle.sas.proofs.shape.calls.SasTaskCalls.cost.Needs.{else-self·by·then-self·else-operator-self, else-self·by·else-self}
 
 pub returns-then-operator-self : need.returns-then-operator-self
-returns-then-operator-self c = cost-made (c .args .self .now) (c .if-self .taken) (c .args .operator) (c .if-operator-self .taken)
+returns-then-operator-self c = omega (arith, cost-made (c .args .self .now) (c .if-self .taken) (c .args .operator) (omega arith))
 
 pub returns-else-self : need.returns-else-self
 returns-else-self c =

@@ -1,16 +1,15 @@
 -- The actions, the goal and the sizes of tables in range. Assumes nothing.
-use mathlib.Core.Path.{_≡_, refl, sym, ap, subst, _∙_}
-use mathlib.Core.List.{List, [], _∷_, map}
+use mathlib.Core.Path.{_≡_, refl, ap, subst, _∙_}
+use mathlib.Core.List.{List, [], _∷_}
 use Prim.Native.Nat.{ℕ, suc, zero, _+_, _≤_, _<_}
 use native.Mathlib.Omega.{arith}
-use lib.ListN.{length, getD, take, drop}
+use lib.ListN.{length, getD, take}
 use Rattle.std.proofs.shelf.Lists.{length-map, length-take-le, getD-map, getD-take, take-take, drop-take}
 use Rattle.std.specs.declared.option.Option.the-variants.{Some, None}
 use Rattle.task.specs.Listing.{Each}
-use Rattle.sas.specs.declared.tables.Operator.{Operator}
-use Rattle.sas.specs.Sas.{Action, Sas, nth}
+use Rattle.sas.specs.Sas.{nth}
 use Rattle.sas.specs.Tables.{Tables, InRange, ConditionFits, OperatorFits, part, sizes-of, sas-of, action-of, used-operators}
-use Rattle.sas.specs.Values.{Sized, Within}
+use Rattle.sas.specs.Values.{Sized}
 use Rattle.sas.proofs.Members.{each-at, each-take, each-drop, each-other}
 use Rattle.sas.proofs.Walks.{no-operator}
 
@@ -36,9 +35,6 @@ module _ (t : Tables) (r : InRange t) where
 
   pub actions-count : length (sas-of t .actions) ≡ t .used .operators
   actions-count = length-map (used-operators t) (action-of (t .conditions)) ∙ operators-count
-
-  pub sizes-count : length (sizes-of t) ≡ t .used .variables
-  sizes-count = length-map (take (t .used .variables) (t .variables)) (λ v. v .size) ∙ length-take-le (t .used .variables) (t .variables) (r .variables .2)
 
   pub sizes-sized : Sized (sizes-of t)
   sizes-sized = each-other (λ n. (1 ≤ n) × (n ≤ 1000)) (λ n. 1 ≤ n) (λ n p. p .0) (sizes-of t) (r .sizes)

@@ -2,14 +2,13 @@
 use mathlib.Core.Path.{_≡_, refl, sym, ap, subst, subst₂, _∙_}
 use mathlib.Core.Bool.{true, _&&_}
 use mathlib.Core.List.{List}
-use Prim.Native.Nat.{ℕ, _+_, _^_, _≤_, _<_}
+use Prim.Native.Nat.{ℕ, _+_, _≤_, _<_}
 use native.Mathlib.Omega.{arith}
 use denote.Ref.{now}
 use lib.ListN.{length, getD, take}
 use Rattle.std.proofs.shelf.Lists.{length-map, length-take-le}
 use Rattle.std.proofs.shelf.Tests.{lt-ltb}
-use Rattle.std.specs.declared.option.Option.{Option}
-use Rattle.std.specs.declared.option.Option.the-variants.{Some, None}
+use Rattle.std.specs.declared.option.Option.the-variants.{Some}
 use Rattle.task.specs.Listing.{Each}
 use Rattle.sas.specs.declared.shape.SasTask.{SasTask}
 use Rattle.sas.specs.declared.tables.Variable.{Variable}
@@ -18,12 +17,12 @@ use Rattle.sas.specs.declared.tables.Operator.{Operator}
 use Rattle.sas.specs.Actions.{applies}
 use Rattle.sas.specs.Sas.{nth, cost-of}
 use Rattle.sas.specs.States.{spanned, values}
-use Rattle.sas.specs.Tables.{Tables, InRange, ConditionFits, OperatorFits, part, sizes-of, name-of, used-operators}
+use Rattle.sas.specs.Tables.{part, sizes-of, name-of, used-operators}
 use Rattle.sas.specs.Values.{Within, sizes}
 use Rattle.sas.specs.Scans.{led, Usable, Fitted}
 use Rattle.sas.specs.Meaning.{tables-of, meaning-of, naming-of, task-meaning, task-names}
 use Rattle.sas.proofs.Members.{each-from-at}
-use Rattle.sas.proofs.Acts.{operators-count, actions-count, sizes-count, sizes-sized, goal-fits, used-operator, operator-there, action-there, operator-fits-there, action-fits}
+use Rattle.sas.proofs.Acts.{operators-count, actions-count, sizes-sized, goal-fits, used-operator, operator-there, action-there, operator-fits-there, action-fits}
 use Rattle.sas.proofs.Scanned.{fits-within, led-moved}
 use Rattle.sas.proofs.Walks.{no-operator}
 use Rattle.sas.proofs.Makes.{made-in-range, made-spans}

@@ -2,19 +2,18 @@
 use mathlib.Core.Path.{_≡_, refl, sym, ap, subst, subst₂, _∙_}
 use mathlib.Core.Bool.{Bool, true, false, cond, _&&_}
 use mathlib.Core.Logic.{⊎-elim}
-use mathlib.Core.List.{List, []}
+use mathlib.Core.List.{[]}
 use Prim.Native.Nat.{ℕ, _^_, _≤_, _<_}
 use native.Mathlib.Omega.{arith}
 use lib.Dec.{ltb}
 use Rattle.std.proofs.str.Laws.{order}
 use Rattle.std.proofs.shelf.Tests.{and-parts, ltb-true, lt-ltb, cond-true}
-use Rattle.std.specs.declared.option.Option.{Option}
 use Rattle.std.specs.declared.option.Option.the-variants.{Some, None}
-use Rattle.task.specs.Model.{Model, Lawful, AtMost}
+use Rattle.task.specs.Model.{Lawful, AtMost}
 use Rattle.sas.specs.States.{spanned, values, numbered}
 use Rattle.sas.specs.Actions.{applies, changed}
-use Rattle.sas.specs.Sas.{Action, Sas, nth, cost-of, moved, meant}
-use Rattle.sas.specs.Tables.{Tables, InRange, sizes-of, sas-of, action-of, name-of, names-of, used-operators}
+use Rattle.sas.specs.Sas.{cost-of, moved, meant}
+use Rattle.sas.specs.Tables.{Tables, InRange, sizes-of, sas-of, action-of, name-of, names-of}
 use Rattle.sas.proofs.Assigned.{values-below, changed-below, numbered-below, spanned-positive}
 use Rattle.sas.proofs.Acts.{actions-count, sizes-sized, action-there, action-past, operator-past, operator-fits-there, action-fits}
 use Rattle.sas.proofs.Walks.{no-operator}

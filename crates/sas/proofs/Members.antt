@@ -1,7 +1,6 @@
 -- Members of lists of which each member is of a kind. Assumes nothing.
-use mathlib.Core.Path.{_≡_, refl}
-use mathlib.Core.List.{List, [], _∷_, map}
-use Prim.Native.Nat.{ℕ, suc, zero, _+_, _≤_, _<_}
+use mathlib.Core.List.{List, [], _∷_}
+use Prim.Native.Nat.{ℕ, suc, zero, _<_}
 use native.Mathlib.Omega.{arith}
 use lib.ListN.{length, getD, take, drop}
 use Rattle.task.specs.Listing.{Each}
@@ -29,7 +28,3 @@ module _ {A : Type 0} (P : A → Type 0) where
   pub each-other : (Q : A → Type 0) → ((x : A) → P x → Q x) → (xs : List A) → Each P xs → Each Q xs
   each-other Q f [] e = tt
   each-other Q f (x ∷ xs) e = (f x (e .0), each-other Q f xs (e .1))
-
-pub each-map : {A B : Type 0} (P : B → Type 0) (f : A → B) (xs : List A) → Each P (map f xs) → Each (λ x. P (f x)) xs
-each-map P f [] e = tt
-each-map P f (x ∷ xs) e = (e .0, each-map P f xs (e .1))

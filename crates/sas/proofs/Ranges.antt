@@ -1,18 +1,17 @@
 -- What the tests of the range check say. Assumes nothing.
-use mathlib.Core.Path.{_≡_, refl, sym, ap, subst, _∙_}
+use mathlib.Core.Path.{_≡_, refl, sym, ap, _∙_}
 use mathlib.Core.Bool.{Bool, true, false, cond, _&&_}
 use mathlib.Core.List.{List, [], _∷_}
 use Prim.Native.Nat.{ℕ, _+_, _*_, _^_, _≤_, _<_}
 use native.Mathlib.Nat.{mul-assoc, mul-one}
 use native.Mathlib.Omega.{arith}
-use lib.Dec.{leb, ltb}
+use lib.Dec.{leb}
 use lib.ListN.{length, getD, drop}
 use Rattle.std.proofs.shelf.Bits.{mul-le}
 use Rattle.std.proofs.shelf.Lists.{at-drop-more, at-drop-all, getD-map, length-map}
-use Rattle.std.proofs.shelf.Tests.{le-ltb, lt-ltb, lt-leb, le-leb, leb-true, leb-false}
+use Rattle.std.proofs.shelf.Tests.{le-ltb, lt-ltb, lt-leb, le-leb, leb-true}
 use Rattle.std.proofs.shelf.Ways.{decides-and}
 use Rattle.std.specs.Orderings.{Decides}
-use Rattle.std.specs.declared.option.Option.{Option}
 use Rattle.std.specs.declared.option.Option.the-variants.{Some, None}
 use Rattle.sas.specs.declared.tables.Variable.{Variable}
 use Rattle.sas.specs.declared.tables.Condition.{Condition}

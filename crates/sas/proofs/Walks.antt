@@ -1,15 +1,14 @@
 -- One turn of each walk over variables or conditions. Assumes nothing.
 use mathlib.Core.Path.{_≡_, sym, ap, subst, _∙_}
 use mathlib.Core.Bool.{Bool}
-use mathlib.Core.List.{List, [], _∷_, _++_, map}
-use Prim.Native.Nat.{ℕ, _+_, _*_, _/_, _%_, _^_, _≤_, _<_}
+use mathlib.Core.List.{List, [], _∷_, _++_}
+use Prim.Native.Nat.{ℕ, _+_, _*_, _/_, _%_, _≤_, _<_}
 use native.Mathlib.Nat.{mul-assoc, mul-one, one-mul}
 use native.Mathlib.Omega.{arith}
 use lib.ListN.{length, getD, set, take, drop}
 use Rattle.std.proofs.shelf.Bits.{mul-le}
-use Rattle.std.proofs.shelf.Lists.{take-more-set, append-assoc, append-nil, at-drop-more, at-drop-all, drop-more, drop-all, drop-map, getD-map, length-map, take-all}
+use Rattle.std.proofs.shelf.Lists.{take-more-set, append-assoc, append-nil, at-drop-more, at-drop-all, drop-more, drop-map, getD-map, length-map, take-all}
 use Rattle.std.specs.declared.option.Option.the-variants.{None}
-use Rattle.task.specs.Listing.{Each}
 use Rattle.sas.specs.declared.tables.Variable.{Variable}
 use Rattle.sas.specs.declared.tables.Condition.{Condition}
 use Rattle.sas.specs.declared.tables.Operator.{Operator}

@@ -1,5 +1,4 @@
 use mathlib.Core.Path.{sym, subst, _∙_}
-use native.Mathlib.Omega.{arith}
 use Rattle.std.proofs.shelf.Lists.{length-map}
 use Rattle.task.specs.Listing.{Each}
 use Rattle.sas.specs.Scans.{Fitted}

@@ -1,5 +1,4 @@
 use mathlib.Core.Path.{sym}
-use mathlib.Core.Bool.{true}
 use native.Mathlib.Omega.{arith}
 use Rattle.sas.proofs.Answered.{cost-made}
 use Rattle.sas.proofs.Makes.{task-lawful, no-more}

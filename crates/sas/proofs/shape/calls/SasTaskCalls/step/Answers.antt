@@ -1,5 +1,4 @@
-use mathlib.Core.Path.{_≡_, refl, sym, ap, _∙_}
-use mathlib.Core.Bool.{true}
+use mathlib.Core.Path.{sym, ap, _∙_}
 use native.Mathlib.Omega.{arith}
 use Rattle.task.proofs.Models.{no-operator, no-state}
 use Rattle.sas.specs.Meaning.{task-meaning, tables-of, meaning-of}

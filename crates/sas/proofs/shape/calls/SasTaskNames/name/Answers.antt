@@ -1,5 +1,4 @@
 use mathlib.Core.Path.{sym, _∙_}
-use mathlib.Core.Bool.{true}
 use native.Mathlib.Omega.{arith}
 use Rattle.sas.proofs.Answered.{name-made, name-within}
 use Rattle.sas.proofs.Makes.{task-nameless, no-more}

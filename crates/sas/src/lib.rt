@@ -1,4 +1,5 @@
-// SAS+ tasks: the tables that hold one, and the task that they make.
+// SAS+ tasks: the tables that hold one, and the task that they make. Tables out of range make the
+// empty task, so that making a task never fails.
 mod moves;
 mod range;
 mod shape;

@@ -22,7 +22,7 @@ use crate::values::number;
 const MOST_VARIABLES: usize = 60;
 
 // Whether the conditions hold in the state.
-pub fn holds_in(variables: &[Variable], conditions: &[Condition], state: u64) -> bool
+pub(crate) fn holds_in(variables: &[Variable], conditions: &[Condition], state: u64) -> bool
     requires usable { ⌜ Usable (now variables) ⌝ }
     requires within { ⌜ Within (length (now variables)) (now conditions) ⌝ }
     ensures { λ r. ⌜ r ≡ applies (now (conditions .entry)) (state-values (sizes (now (variables .entry))) state) ⌝ }
@@ -34,7 +34,7 @@ pub fn holds_in(variables: &[Variable], conditions: &[Condition], state: u64) ->
 }
 
 // The conditions of the operator.
-pub fn conditions_of(conditions: &[Condition], operator: Operator) -> &[Condition]
+fn conditions_of(conditions: &[Condition], operator: Operator) -> &[Condition]
     requires { ⌜ operator .first + operator .count ≤ length (now conditions) ⌝ }
     ensures { λ r. ⌜ now r ≡ part (now (conditions .entry)) (operator .first) (operator .count) ⌝ }
 {
@@ -54,7 +54,7 @@ fn reached(variables: &[Variable], values: &mut [u32], conditions: &[Condition])
 }
 
 // The state that the operator leads to from the state, if its conditions hold there.
-pub fn target(
+pub(crate) fn target(
     variables: &[Variable],
     conditions: &[Condition],
     operator: Operator,
@@ -96,7 +96,7 @@ fn first_acting(
 }
 
 // The first operator numbered `from` or more whose conditions hold in the state, and where it leads.
-pub fn first_move(
+pub(crate) fn first_move(
     variables: &[Variable],
     operators: &[Operator],
     conditions: &[Condition],

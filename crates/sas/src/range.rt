@@ -9,6 +9,7 @@ use crate::tables::Operator;
 use crate::tables::Reading;
 use crate::tables::Variable;
 
+// No task has more states.
 const LARGEST_SPAN: u64 = 1 << 60;
 
 // The product of the sizes; none where a size is out of range or the product is too large.
@@ -42,6 +43,7 @@ fn is_valid(value: Option<u32>, size: u32) -> bool
     }
 }
 
+// Whether the condition is of one of the variables, and its values are values of it.
 fn condition_in_range(variables: &[Variable], condition: Condition) -> bool
     ensures { λ r. ⌜ r ≡ condition-fits (sizes (now (variables .entry))) condition ⌝ }
 {
@@ -53,6 +55,7 @@ fn condition_in_range(variables: &[Variable], condition: Condition) -> bool
     is_valid(condition.before, size) && is_valid(condition.after, size)
 }
 
+// Whether every condition is in range.
 fn conditions_in_range(variables: &[Variable], conditions: &[Condition]) -> bool
     ensures { λ r. ⌜ r ≡ each (condition-fits (sizes (now (variables .entry)))) (now (conditions .entry)) ⌝ }
 {
@@ -64,6 +67,7 @@ fn conditions_in_range(variables: &[Variable], conditions: &[Condition]) -> bool
     true
 }
 
+// Whether the operator's name is within the bytes and its conditions within those in use, and its cost in range.
 fn operator_in_range(bytes: usize, conditions: u32, operator: Operator) -> bool
     ensures { λ r. ⌜ r ≡ operator-fits bytes conditions operator ⌝ }
 {
@@ -72,6 +76,7 @@ fn operator_in_range(bytes: usize, conditions: u32, operator: Operator) -> bool
     named && placed && operator.cost >= 1 && operator.cost <= 1000000
 }
 
+// Whether every operator is in range.
 fn operators_in_range(bytes: usize, conditions: u32, operators: &[Operator]) -> bool
     ensures { λ r. ⌜ r ≡ each (operator-fits bytes conditions) (now (operators .entry)) ⌝ }
 {
@@ -112,7 +117,7 @@ fn records_in_range(
 }
 
 // The span of tables in range; none where they are not.
-pub fn span_of(
+pub(crate) fn span_of(
     bytes: &[u8],
     variables: &[Variable],
     operators: &[Operator],

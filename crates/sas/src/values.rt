@@ -10,7 +10,7 @@ use crate::tables::Condition;
 use crate::tables::Variable;
 
 // Writes the values of the variables in the state.
-pub fn decode(variables: &[Variable], state: u64, values: &mut [u32])
+pub(crate) fn decode(variables: &[Variable], state: u64, values: &mut [u32])
     requires long { ⌜ length (now values) ≡ length (now variables) ⌝ }
     requires sized { ⌜ Sized (sizes (now variables)) ⌝ }
     ensures { λ _. ⌜ now (values .exit) ≡ state-values (sizes (now (variables .entry))) state ⌝ }
@@ -24,7 +24,7 @@ pub fn decode(variables: &[Variable], state: u64, values: &mut [u32])
 }
 
 // The number of the state with these values.
-pub fn number(variables: &[Variable], values: &[u32]) -> u64
+pub(crate) fn number(variables: &[Variable], values: &[u32]) -> u64
     requires below { ⌜ Below (sizes (now variables)) (now values) ⌝ }
     requires small { ⌜ spanned (sizes (now variables)) ≤ 2 ^ 60 ⌝ }
     ensures { λ r. ⌜ r ≡ numbered (sizes (now (variables .entry))) (now (values .entry)) ⌝ }
@@ -49,7 +49,7 @@ fn has_value(wanted: Option<u32>, value: u32) -> bool
 }
 
 // Whether every condition has the value that it asks for.
-pub fn holds(values: &[u32], conditions: &[Condition]) -> bool
+pub(crate) fn holds(values: &[u32], conditions: &[Condition]) -> bool
     requires { ⌜ Within (length (now values)) (now conditions) ⌝ }
     ensures { λ r. ⌜ r ≡ applies (now (conditions .entry)) (now (values .entry)) ⌝ }
 {
@@ -73,7 +73,7 @@ fn renew(values: &mut [u32], variable: usize, value: Option<u32>)
 }
 
 // Gives the variables the values that the conditions set, one condition after another.
-pub fn change(values: &mut [u32], conditions: &[Condition])
+pub(crate) fn change(values: &mut [u32], conditions: &[Condition])
     requires { ⌜ Within (length (now values)) (now conditions) ⌝ }
     ensures { λ _. ⌜ now (values .exit) ≡ changed (now (conditions .entry)) (now (values .entry)) ⌝ }
 {

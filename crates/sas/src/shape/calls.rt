@@ -41,6 +41,7 @@ impl<'a> SasTask<'a> {
         }
     }
 
+    // The variables in use of a made task.
     fn used_variables(&self) -> &[Variable]
         requires { ⌜ now self .made ≡ true ⌝ }
         ensures { λ r. ⌜ now r ≡ take (now (self .entry) .used .variables) (now (now (self .entry) .variables)) ⌝ }
@@ -48,6 +49,7 @@ impl<'a> SasTask<'a> {
         &self.variables[0..self.used.variables as usize]
     }
 
+    // The operators in use of a made task.
     fn used_operators(&self) -> &[Operator]
         requires { ⌜ now self .made ≡ true ⌝ }
         ensures { λ r. ⌜ now r ≡ take (now (self .entry) .used .operators) (now (now (self .entry) .operators)) ⌝ }
@@ -55,6 +57,7 @@ impl<'a> SasTask<'a> {
         &self.operators[0..self.used.operators as usize]
     }
 
+    // The conditions of the goal of a made task.
     fn goal(&self) -> &[Condition]
         requires { ⌜ now self .made ≡ true ⌝ }
         ensures { λ r. ⌜ now r ≡ take (now (self .entry) .used .goal) (now (now (self .entry) .conditions)) ⌝ }

@@ -1,452 +1,65 @@
--- The block `SasTaskNames` meets its trait: the proof that Rattle makes of a block with a lifetime, with the law beside it. Assumes nothing.
+-- The block `SasTaskNames` meets its trait: each method as it is proved, at the lifetime of the tables, and the law.
+-- Rattle makes no such proof for a block with a lifetime of a trait with a law. Assumes nothing.
+use mathlib.Core.Path.{refl}
+use mathlib.Core.Bool.{true}
+use mathlib.Core.List.{[]}
+use Prim.Native.Nat.{ℕ}
+use mir.Syntax.{Callee, method, erased}
+use base.Logic.{id⊢, emp}
+use contract.BorrowLft.{⊑-refl, ⊑-trans}
+use contract.Running.{givenOf, within}
+use denote.Param.{layouts}
+use denote.Ref.{NamedLft}
+use denote.Triple.End.{outs}
+use denote.Triple.Impl.{implements, hidden, insides-in, inside, to-emp}
+use denote.Triple.Less.{less}
+use denote.Triple.Spec.{tripleOf}
+use denote.Triple.Table.{run-framed, widened}
+use Rattle.sas.specs.contracts.shape.SasTask.{the-row}
+use Rattle.sas.specs.contracts.shape.calls.SasTaskNames.the-impl.{ghosts, dict}
+use Rattle.sas.specs.contracts.shape.calls.SasTaskCalls.the-impl.{ghosts as calls, dict as calls·dict}
 use Rattle.sas.proofs.Makes.{task-nameless}
-use Rattle.sas.proofs.shape.calls.SasTaskNames.name.Met
-use Rattle.sas.proofs.shape.calls.SasTaskNames.name.Symbol
-use Rattle.sas.proofs.shape.calls.SasTaskNames.the-impl.Statement
-use Rattle.sas.proofs.shape.calls.SasTaskNames.unit_cost.Met as Met'
-use Rattle.sas.proofs.shape.calls.SasTaskNames.unit_cost.Symbol as Symbol'
-use Rattle.sas.specs.contracts.shape.SasTask
-use Rattle.sas.specs.contracts.shape.calls.SasTaskCalls.the-impl
-use Rattle.sas.specs.contracts.shape.calls.SasTaskNames.name
-use Rattle.sas.specs.contracts.shape.calls.SasTaskNames.the-impl as the-impl'
-use Rattle.sas.specs.contracts.shape.calls.SasTaskNames.unit_cost
-use Rattle.task.specs.contracts.tasks.NamedTask.name as name'
-use Rattle.task.specs.contracts.tasks.NamedTask.unit_cost as «unit_cost'»
-use base.Logic
-use contract.BorrowLft
-use contract.Running
-use denote.Param
-use denote.Ref
-use denote.Triple.End
-use denote.Triple.Impl
-use denote.Triple.Less
-use denote.Triple.Spec
-use denote.Triple.Table
-use mathlib.Core.Bool
-use mathlib.Core.List
-use mathlib.Core.Path as Path'
-use mir.Syntax
+use Rattle.sas.proofs.shape.calls.SasTaskNames.the-impl.Statement.{statement}
+use Rattle.sas.proofs.shape.calls.SasTaskNames.name.Met as name·met
+use Rattle.sas.proofs.shape.calls.SasTaskNames.name.Symbol as name·symbol
+use Rattle.sas.specs.contracts.shape.calls.SasTaskNames.name as name·own
+use Rattle.task.specs.contracts.tasks.NamedTask.name as name·asked
+use Rattle.sas.proofs.shape.calls.SasTaskNames.unit_cost.Met as «unit_cost·met»
+use Rattle.sas.proofs.shape.calls.SasTaskNames.unit_cost.Symbol as «unit_cost·symbol»
+use Rattle.sas.specs.contracts.shape.calls.SasTaskNames.unit_cost as «unit_cost·own»
+use Rattle.task.specs.contracts.tasks.NamedTask.unit_cost as «unit_cost·asked»
 
-ruleset ends = (Logic.id⊢, Impl.to-emp, Less.less)
+ruleset ends = (id⊢, to-emp, less)
 
-ruleset parts = (
-  BorrowLft.⊑-refl,
-  BorrowLft.⊑-static,
-  BorrowLft.⊑-meet,
-  Impl.in-left,
-  Impl.in-right,
-)
+abbrev key : ℕ → Callee
+key i = method dict i (layouts [] tt)
 
-pub bound : Statement.statement
-bound = λ γ″' x'4 x'5 x'6 M' 𝓤' H' 𝓜' 𝓖' 𝓡'. let x'7 : Ref.NamedLft = record {
-  mir = Syntax.erased;
-  lft = x'6;
-} in record {
-  nameless = task-nameless;
-  name = Impl.implements
-      𝓤'
-      H'
-      (𝓖' .A)
-      name.signature
-      2
-      (name'.ended
-      (SasTask.the-row x'7)
-      the-impl'.ghosts
-      the-impl'.dict
-      the-impl.ghosts
-      the-impl.dict .signature .outlives)
-      (λ τs'. (τs' .0, (x'7 .lft, tt)))
-      (Running.givenOf 𝓤' H' 𝓜' 𝓖')
-      (𝓡' .run (γ″' (Syntax.method the-impl'.dict 0 (Param.layouts List.[] tt))))
-      (Table.run-framed
-      𝓤'
-      H'
-      𝓜'
-      𝓡'
-      (γ″' (Syntax.method the-impl'.dict 0 (Param.layouts List.[] tt))))
-      (name.spec 𝓤' H' (𝓖' .A) (𝓜' .mem) (𝓡' .returns))
-      (λ τs'' a'. record {
-        ghost = name'.spec
-            (SasTask.the-row x'7)
-            the-impl'.ghosts
-            the-impl'.dict
-            the-impl.ghosts
-            the-impl.dict
-            𝓤'
-            H'
-            (𝓖' .A)
-            (𝓜' .mem)
-            (𝓡' .returns)
-            τs''
-            a' .ghost;
-        requires = λ y'. name'.spec
-            (SasTask.the-row x'7)
-            the-impl'.ghosts
-            the-impl'.dict
-            the-impl.ghosts
-            the-impl.dict
-            𝓤'
-            H'
-            (𝓖' .A)
-            (𝓜' .mem)
-            (𝓡' .returns)
-            τs''
-            a' .requires
-            y';
-        ensures = name'.spec
-            (SasTask.the-row x'7)
-            the-impl'.ghosts
-            the-impl'.dict
-            the-impl.ghosts
-            the-impl.dict
-            𝓤'
-            H'
-            (𝓖' .A)
-            (𝓜' .mem)
-            (𝓡' .returns)
-            τs''
-            a' .ensures;
-      })
-      1
-      (λ τs'3. (τs'3 .1 .0, tt))
-      (λ τs'4. (SasTask.the-row x'7 .lives, tt))
-      ((0, tt), ((1, tt), tt))
-      (λ τs'5 a'' y''. Logic.emp 𝓤')
-      (λ τs'6 a'3 y'3. Logic.id⊢
-      𝓤'
-      (name'.spec
-      (SasTask.the-row x'7)
-      the-impl'.ghosts
-      the-impl'.dict
-      the-impl.ghosts
-      the-impl.dict
-      𝓤'
-      H'
-      (𝓖' .A)
-      (𝓜' .mem)
-      (𝓡' .returns)
-      τs'6
-      a'3 .requires
-      y'3))
-      (λ τs'7 h'. (
-        (
-          BorrowLft.⊑-refl (τs'7 .0),
-          (
-            BorrowLft.⊑-trans
-                (τs'7 .1 .0)
-                (τs'7 .1 .0)
-                (x'7 .lft)
-                (BorrowLft.⊑-refl (τs'7 .1 .0))
-                (BorrowLft.⊑-trans
-                (τs'7 .1 .0)
-                (SasTask.the-row x'7 .lives)
-                (x'7 .lft)
-                (h' .1 .0)
-                (search Impl.inside depth 24 fits 20000)),
-            tt,
-          ),
-        ),
-        (
-          BorrowLft.⊑-trans
-              (τs'7 .0)
-              (τs'7 .1 .0)
-              (x'7 .lft)
-              (BorrowLft.⊑-trans
-              (τs'7 .0)
-              (τs'7 .0)
-              (τs'7 .1 .0)
-              (BorrowLft.⊑-refl (τs'7 .0))
-              (h' .0 .0))
-              (BorrowLft.⊑-trans
-              (τs'7 .1 .0)
-              (SasTask.the-row x'7 .lives)
-              (x'7 .lft)
-              (h' .1 .0)
-              (search Impl.inside depth 24 fits 20000)),
-          tt,
-        ),
-      ))
-      (λ τs'8 a'4 y'4. y'4)
-      (λ τs'9 h'' a'5 y'5. Impl.insides-in 𝓤' 0 tt tt (Logic.emp 𝓤') tt)
-      (λ τs'10 a'6 y'6 r'. Impl.hidden
-      2
-      (τs'10 .0, (x'7 .lft, tt))
-      𝓤'
-      H'
-      (𝓖' .A)
-      (name.signature .params)
-      (name.ended .kept)
-      (Bool.true, (Bool.true, tt))
-      a'6
-      (λ ws'. name.clauses
-      𝓤'
-      H'
-      (𝓖' .A)
-      (𝓜' .mem)
-      (𝓡' .returns)
-      (τs'10 .0, (x'7 .lft, tt))
-      a'6 .ensures
-      y'6
-      r'
-      (End.outs {n = 2}
-      (τs'10 .0, (x'7 .lft, tt))
-      (name.ended .signature .params)
-      (name.ended .kept)
-      a'6
-      ws'))
-      (λ ws''. name'.clauses
-      (SasTask.the-row x'7)
-      the-impl'.ghosts
-      the-impl'.dict
-      the-impl.ghosts
-      the-impl.dict
-      𝓤'
-      H'
-      (𝓖' .A)
-      (𝓜' .mem)
-      (𝓡' .returns)
-      τs'10
-      a'6 .ensures
-      y'6
-      r'
-      (End.outs {n = 2}
-      τs'10
-      (name'.ended
-      (SasTask.the-row x'7)
-      the-impl'.ghosts
-      the-impl'.dict
-      the-impl.ghosts
-      the-impl.dict .signature .params)
-      (name'.ended
-      (SasTask.the-row x'7)
-      the-impl'.ghosts
-      the-impl'.dict
-      the-impl.ghosts
-      the-impl.dict .kept)
-      a'6
-      ws''))
-      λ x'8. search ends depth 24 fits 20000)
-      (Table.widened
-      𝓤'
-      H'
-      (Spec.tripleOf
-      𝓤'
-      H'
-      (𝓖' .A)
-      name.signature
-      (name.spec 𝓤' H' (𝓖' .A) (𝓜' .mem) (𝓡' .returns)))
-      𝓜'
-      𝓡'
-      γ″'
-      (γ″' Symbol.name)
-      (γ″' (Syntax.method the-impl'.dict 0 (Param.layouts List.[] tt)))
-      (Symbol.as-method
-      γ″'
-      x'4
-      (Syntax.method the-impl'.dict 0 (Param.layouts List.[] tt))
-      Path'.refl)
-      (Met.met 𝓤' H' 𝓜' 𝓖' (Running.within 𝓤' H' 𝓜' 𝓡' γ″') x'4));
-  «unit_cost» = Impl.implements
-      𝓤'
-      H'
-      (𝓖' .A)
-      unit_cost.signature
-      2
-      (unit_cost'.ended
-      (SasTask.the-row x'7)
-      the-impl'.ghosts
-      the-impl'.dict
-      the-impl.ghosts
-      the-impl.dict .signature .outlives)
-      (λ τs'11. (τs'11 .0, (x'7 .lft, tt)))
-      (Running.givenOf 𝓤' H' 𝓜' 𝓖')
-      (𝓡' .run (γ″' (Syntax.method the-impl'.dict 1 (Param.layouts List.[] tt))))
-      (Table.run-framed
-      𝓤'
-      H'
-      𝓜'
-      𝓡'
-      (γ″' (Syntax.method the-impl'.dict 1 (Param.layouts List.[] tt))))
-      (unit_cost.spec 𝓤' H' (𝓖' .A) (𝓜' .mem) (𝓡' .returns))
-      (λ τs'12 a'7. record {
-        ghost = unit_cost'.spec
-            (SasTask.the-row x'7)
-            the-impl'.ghosts
-            the-impl'.dict
-            the-impl.ghosts
-            the-impl.dict
-            𝓤'
-            H'
-            (𝓖' .A)
-            (𝓜' .mem)
-            (𝓡' .returns)
-            τs'12
-            a'7 .ghost;
-        requires = λ y'7. unit_cost'.spec
-            (SasTask.the-row x'7)
-            the-impl'.ghosts
-            the-impl'.dict
-            the-impl.ghosts
-            the-impl.dict
-            𝓤'
-            H'
-            (𝓖' .A)
-            (𝓜' .mem)
-            (𝓡' .returns)
-            τs'12
-            a'7 .requires
-            y'7;
-        ensures = unit_cost'.spec
-            (SasTask.the-row x'7)
-            the-impl'.ghosts
-            the-impl'.dict
-            the-impl.ghosts
-            the-impl.dict
-            𝓤'
-            H'
-            (𝓖' .A)
-            (𝓜' .mem)
-            (𝓡' .returns)
-            τs'12
-            a'7 .ensures;
-      })
-      1
-      (λ τs'13. (τs'13 .1 .0, tt))
-      (λ τs'14. (SasTask.the-row x'7 .lives, tt))
-      ((0, tt), ((1, tt), tt))
-      (λ τs'15 a'8 y'8. Logic.emp 𝓤')
-      (λ τs'16 a'9 y'9. Logic.id⊢
-      𝓤'
-      (unit_cost'.spec
-      (SasTask.the-row x'7)
-      the-impl'.ghosts
-      the-impl'.dict
-      the-impl.ghosts
-      the-impl.dict
-      𝓤'
-      H'
-      (𝓖' .A)
-      (𝓜' .mem)
-      (𝓡' .returns)
-      τs'16
-      a'9 .requires
-      y'9))
-      (λ τs'17 h'3. (
-        (
-          BorrowLft.⊑-refl (τs'17 .0),
-          (
-            BorrowLft.⊑-trans
-                (τs'17 .1 .0)
-                (τs'17 .1 .0)
-                (x'7 .lft)
-                (BorrowLft.⊑-refl (τs'17 .1 .0))
-                (BorrowLft.⊑-trans
-                (τs'17 .1 .0)
-                (SasTask.the-row x'7 .lives)
-                (x'7 .lft)
-                (h'3 .1 .0)
-                (search Impl.inside depth 24 fits 20000)),
-            tt,
-          ),
-        ),
-        (
-          BorrowLft.⊑-trans
-              (τs'17 .0)
-              (τs'17 .1 .0)
-              (x'7 .lft)
-              (BorrowLft.⊑-trans
-              (τs'17 .0)
-              (τs'17 .0)
-              (τs'17 .1 .0)
-              (BorrowLft.⊑-refl (τs'17 .0))
-              (h'3 .0 .0))
-              (BorrowLft.⊑-trans
-              (τs'17 .1 .0)
-              (SasTask.the-row x'7 .lives)
-              (x'7 .lft)
-              (h'3 .1 .0)
-              (search Impl.inside depth 24 fits 20000)),
-          tt,
-        ),
-      ))
-      (λ τs'18 a'10 y'10. y'10)
-      (λ τs'19 h'4 a'11 y'11. Impl.insides-in 𝓤' 0 tt tt (Logic.emp 𝓤') tt)
-      (λ τs'20 a'12 y'12 r''. Impl.hidden
-      2
-      (τs'20 .0, (x'7 .lft, tt))
-      𝓤'
-      H'
-      (𝓖' .A)
-      (unit_cost.signature .params)
-      (unit_cost.ended .kept)
-      (Bool.true, tt)
-      a'12
-      (λ ws'3. unit_cost.clauses
-      𝓤'
-      H'
-      (𝓖' .A)
-      (𝓜' .mem)
-      (𝓡' .returns)
-      (τs'20 .0, (x'7 .lft, tt))
-      a'12 .ensures
-      y'12
-      r''
-      (End.outs {n = 2}
-      (τs'20 .0, (x'7 .lft, tt))
-      (unit_cost.ended .signature .params)
-      (unit_cost.ended .kept)
-      a'12
-      ws'3))
-      (λ ws'4. unit_cost'.clauses
-      (SasTask.the-row x'7)
-      the-impl'.ghosts
-      the-impl'.dict
-      the-impl.ghosts
-      the-impl.dict
-      𝓤'
-      H'
-      (𝓖' .A)
-      (𝓜' .mem)
-      (𝓡' .returns)
-      τs'20
-      a'12 .ensures
-      y'12
-      r''
-      (End.outs {n = 2}
-      τs'20
-      (unit_cost'.ended
-      (SasTask.the-row x'7)
-      the-impl'.ghosts
-      the-impl'.dict
-      the-impl.ghosts
-      the-impl.dict .signature .params)
-      (unit_cost'.ended
-      (SasTask.the-row x'7)
-      the-impl'.ghosts
-      the-impl'.dict
-      the-impl.ghosts
-      the-impl.dict .kept)
-      a'12
-      ws'4))
-      λ x'9. search ends depth 24 fits 20000)
-      (Table.widened
-      𝓤'
-      H'
-      (Spec.tripleOf
-      𝓤'
-      H'
-      (𝓖' .A)
-      unit_cost.signature
-      (unit_cost.spec 𝓤' H' (𝓖' .A) (𝓜' .mem) (𝓡' .returns)))
-      𝓜'
-      𝓡'
-      γ″'
-      (γ″' Symbol'.name)
-      (γ″' (Syntax.method the-impl'.dict 1 (Param.layouts List.[] tt)))
-      (Symbol'.as-method
-      γ″'
-      x'5
-      (Syntax.method the-impl'.dict 1 (Param.layouts List.[] tt))
-      Path'.refl)
-      (Met'.met 𝓤' H' 𝓜' 𝓖' (Running.within 𝓤' H' 𝓜' 𝓡' γ″') x'5));
-}
+pub bound : statement
+bound γ w0 w1 κ M 𝓤 H 𝓜 𝓖 𝓡 =
+    let a : NamedLft = record { mir = erased; lft = κ } in
+    let A = 𝓖 .A in
+    record {
+      nameless = task-nameless;
+      name =
+          let asked = name·asked.spec (the-row a) ghosts dict calls calls·dict 𝓤 H A (𝓜 .mem) (𝓡 .returns) in
+          let ended = name·asked.ended (the-row a) ghosts dict calls calls·dict in
+          let own = name·own.spec 𝓤 H A (𝓜 .mem) (𝓡 .returns) in
+          implements 𝓤 H A name·own.signature 2 (ended .signature .outlives) (λ τs. (τs .0, (κ, tt))) (givenOf 𝓤 H 𝓜 𝓖) (𝓡 .run (γ (key 0))) (run-framed 𝓤 H 𝓜 𝓡 (γ (key 0))) own
+          (λ τs x. record { ghost = asked τs x .ghost; requires = λ y. asked τs x .requires y; ensures = asked τs x .ensures }) 1 (λ τs. (τs .1 .0, tt)) (λ τs. (the-row a .lives, tt)) ((0, tt), ((1, tt), tt)) (λ τs x y. emp 𝓤) (λ τs x y. id⊢ 𝓤 _)
+          (λ τs h. let short = ⊑-trans (τs .1 .0) (the-row a .lives) κ (h .1 .0) (search inside depth 24 fits 20000) in ((⊑-refl (τs .0), (short, tt)), (⊑-trans (τs .0) (τs .1 .0) κ (h .0 .0) short, tt)))
+          (λ τs x y. y) (λ τs h x y. insides-in 𝓤 0 tt tt (emp 𝓤) tt) (λ τs x y r. hidden 2 (τs .0, (κ, tt)) 𝓤 H A (name·own.signature .params) (name·own.ended .kept) (true, (true, tt)) x
+          (λ ws. name·own.clauses 𝓤 H A (𝓜 .mem) (𝓡 .returns) (τs .0, (κ, tt)) x .ensures y r (outs {n = 2} (τs .0, (κ, tt)) (name·own.ended .signature .params) (name·own.ended .kept) x ws))
+          (λ ws. name·asked.clauses (the-row a) ghosts dict calls calls·dict 𝓤 H A (𝓜 .mem) (𝓡 .returns) τs x .ensures y r (outs {n = 2} τs (ended .signature .params) (ended .kept) x ws)) (λ z. search ends depth 24 fits 20000))
+          (widened 𝓤 H (tripleOf 𝓤 H A name·own.signature own) 𝓜 𝓡 γ (γ name·symbol.name) (γ (key 0)) (name·symbol.as-method γ w0 (key 0) refl) (name·met.met 𝓤 H 𝓜 𝓖 (within 𝓤 H 𝓜 𝓡 γ) w0));
+      «unit_cost» =
+          let asked = unit_cost·asked.spec (the-row a) ghosts dict calls calls·dict 𝓤 H A (𝓜 .mem) (𝓡 .returns) in
+          let ended = unit_cost·asked.ended (the-row a) ghosts dict calls calls·dict in
+          let own = unit_cost·own.spec 𝓤 H A (𝓜 .mem) (𝓡 .returns) in
+          implements 𝓤 H A unit_cost·own.signature 2 (ended .signature .outlives) (λ τs. (τs .0, (κ, tt))) (givenOf 𝓤 H 𝓜 𝓖) (𝓡 .run (γ (key 1))) (run-framed 𝓤 H 𝓜 𝓡 (γ (key 1))) own
+          (λ τs x. record { ghost = asked τs x .ghost; requires = λ y. asked τs x .requires y; ensures = asked τs x .ensures }) 1 (λ τs. (τs .1 .0, tt)) (λ τs. (the-row a .lives, tt)) ((0, tt), ((1, tt), tt)) (λ τs x y. emp 𝓤) (λ τs x y. id⊢ 𝓤 _)
+          (λ τs h. let short = ⊑-trans (τs .1 .0) (the-row a .lives) κ (h .1 .0) (search inside depth 24 fits 20000) in ((⊑-refl (τs .0), (short, tt)), (⊑-trans (τs .0) (τs .1 .0) κ (h .0 .0) short, tt)))
+          (λ τs x y. y) (λ τs h x y. insides-in 𝓤 0 tt tt (emp 𝓤) tt) (λ τs x y r. hidden 2 (τs .0, (κ, tt)) 𝓤 H A (unit_cost·own.signature .params) (unit_cost·own.ended .kept) (true, tt) x
+          (λ ws. unit_cost·own.clauses 𝓤 H A (𝓜 .mem) (𝓡 .returns) (τs .0, (κ, tt)) x .ensures y r (outs {n = 2} (τs .0, (κ, tt)) (unit_cost·own.ended .signature .params) (unit_cost·own.ended .kept) x ws))
+          (λ ws. unit_cost·asked.clauses (the-row a) ghosts dict calls calls·dict 𝓤 H A (𝓜 .mem) (𝓡 .returns) τs x .ensures y r (outs {n = 2} τs (ended .signature .params) (ended .kept) x ws)) (λ z. search ends depth 24 fits 20000))
+          (widened 𝓤 H (tripleOf 𝓤 H A unit_cost·own.signature own) 𝓜 𝓡 γ (γ unit_cost·symbol.name) (γ (key 1)) (unit_cost·symbol.as-method γ w1 (key 1) refl) (unit_cost·met.met 𝓤 H 𝓜 𝓖 (within 𝓤 H 𝓜 𝓡 γ) w1));
+    }

@@ -38,8 +38,8 @@ fn conditions_of(conditions: &[Condition], operator: Operator) -> &[Condition]
     requires { ⌜ operator .first + operator .count ≤ length (now conditions) ⌝ }
     ensures { λ r. ⌜ now r ≡ part (now (conditions .entry)) (operator .first) (operator .count) ⌝ }
 {
-    let first = operator.first as usize;
-    &conditions[first..first + operator.count as usize]
+    let first = operator.first;
+    &conditions[first..first + operator.count]
 }
 
 // The number of the state that the conditions make of the values.

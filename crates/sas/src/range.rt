@@ -1,7 +1,5 @@
 // Whether tables are in range, each record looked at once.
 ghost use mathlib.Core.Path.{_≡_};
-ghost use Prim.Native.Nat.{_+_};
-ghost use lib.ListN.{length};
 ghost use Rattle.sas.specs.Checks.{condition-fits, counts-fit, each, operator-fits, product, range, records-fit, tables, valid};
 ghost use Rattle.sas.specs.Values.{sizes};
 use crate::tables::Condition;
@@ -68,16 +66,16 @@ fn conditions_in_range(variables: &[Variable], conditions: &[Condition]) -> bool
 }
 
 // Whether the operator's name is within the bytes and its conditions within those in use, and its cost in range.
-fn operator_in_range(bytes: usize, conditions: u32, operator: Operator) -> bool
+fn operator_in_range(bytes: usize, conditions: usize, operator: Operator) -> bool
     ensures { λ r. ⌜ r ≡ operator-fits bytes conditions operator ⌝ }
 {
     let named = operator.name as u64 + operator.name_length as u64 <= bytes as u64;
-    let placed = operator.first as u64 + operator.count as u64 <= conditions as u64;
+    let placed = operator.count <= conditions && operator.first <= conditions - operator.count;
     named && placed && operator.cost >= 1 && operator.cost <= 1000000
 }
 
 // Whether every operator is in range.
-fn operators_in_range(bytes: usize, conditions: u32, operators: &[Operator]) -> bool
+fn operators_in_range(bytes: usize, conditions: usize, operators: &[Operator]) -> bool
     ensures { λ r. ⌜ r ≡ each (operator-fits bytes conditions) (now (operators .entry)) ⌝ }
 {
     for i in 0..operators.len() {
@@ -96,7 +94,7 @@ fn counts_in_range(used: Reading, variables: usize, operators: usize, conditions
         && used.variables <= 60
         && used.variables as usize <= variables;
     let few_operators = used.operators <= 4096 && used.operators as usize <= operators;
-    let few_conditions = used.goal <= used.conditions && used.conditions as usize <= conditions;
+    let few_conditions = used.goal <= used.conditions && used.conditions <= conditions;
     few_variables && few_operators && few_conditions
 }
 
@@ -131,7 +129,8 @@ pub(crate) fn span_of(
     }
     let variables = &variables[0..used.variables as usize];
     let operators = &operators[0..used.operators as usize];
-    let conditions = &conditions[0..used.conditions as usize];
+    let condition_count = used.conditions;
+    let conditions = &conditions[0..condition_count];
     let span = product_of(variables)?;
     if records_in_range(bytes.len(), variables, operators, conditions, used, span) {
         Some(span)

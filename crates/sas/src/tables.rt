@@ -21,8 +21,8 @@ pub struct Condition {
 pub struct Operator {
     pub name: u32,
     pub name_length: u32,
-    pub first: u32,
-    pub count: u32,
+    pub first: usize,
+    pub count: usize,
     pub cost: u32,
 }
 
@@ -32,8 +32,8 @@ pub struct Operator {
 pub struct Reading {
     pub variables: u32,
     pub operators: u32,
-    pub conditions: u32,
-    pub goal: u32,
+    pub conditions: usize,
+    pub goal: usize,
     pub start: u64,
     pub unit_cost: bool,
 }

@@ -62,7 +62,7 @@ impl<'a> SasTask<'a> {
         requires { ⌜ now self .made ≡ true ⌝ }
         ensures { λ r. ⌜ now r ≡ take (now (self .entry) .used .goal) (now (now (self .entry) .conditions)) ⌝ }
     {
-        &self.conditions[0..self.used.goal as usize]
+        &self.conditions[0..self.used.goal]
     }
 }
 

@@ -2,7 +2,7 @@
 ghost use mathlib.Core.Path.{_≡_};
 ghost use Rattle.task.specs.Numbers.{number-of};
 ghost use Rattle.task.specs.declared.faults.Kind.the-variants.{NoMemory};
-ghost use Rattle.task.specs.declared.faults.Layer.the-variants.{Reading, Text, Memory};
+ghost use Rattle.task.specs.declared.faults.Layer.the-variants.{Reading, Chart, Pile, Session, Text, Memory};
 use std::alloc::AllocError;
 use std::alloc::Refused;
 
@@ -98,6 +98,39 @@ impl Fault {
             kind,
             place: step,
             layer: Layer::Text,
+        }
+    }
+
+    // A fault of a chart's tables, at a record.
+    pub fn chart(kind: Kind, record: u32) -> Fault
+        ensures { λ r. ⌜ r ≡ record { kind = kind; place = «record»; layer = Chart } ⌝ }
+    {
+        Fault {
+            kind,
+            place: record,
+            layer: Layer::Chart,
+        }
+    }
+
+    // A fault of a layer over a task.
+    pub fn pile(kind: Kind) -> Fault
+        ensures { λ r. ⌜ r ≡ record { kind = kind; place = 0; layer = Pile } ⌝ }
+    {
+        Fault {
+            kind,
+            place: 0,
+            layer: Layer::Pile,
+        }
+    }
+
+    // A fault of a search, or of a tally's call.
+    pub fn session(kind: Kind) -> Fault
+        ensures { λ r. ⌜ r ≡ record { kind = kind; place = 0; layer = Session } ⌝ }
+    {
+        Fault {
+            kind,
+            place: 0,
+            layer: Layer::Session,
         }
     }
 

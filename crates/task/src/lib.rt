@@ -5,8 +5,10 @@ mod steps;
 mod tasks;
 
 pub use faults::Fault;
+pub use faults::FaultDebug;
 pub use faults::FaultFromAlloc;
 pub use faults::FaultFromRefused;
+pub use faults::FaultPartialEq;
 pub use faults::Kind;
 pub use faults::Layer;
 pub use steps::earlier;

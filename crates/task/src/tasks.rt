@@ -29,7 +29,7 @@ pub trait Task {
     fn is_goal(&self, state: u64) -> bool
         ensures { λ r. ⌜ r ≡ meaning (now (self .entry)) .goal state ⌝ };
 
-    // A number that no way to a goal costs less than; none where no way leads to a goal.
+    // A number that no way to a goal costs less than; none only where no way leads to a goal.
     fn estimate(&self, state: u64) -> Option<u64>
         ensures { λ r. ⌜ r ≡ meaning (now (self .entry)) .estimate state ⌝ };
 

@@ -1,0 +1,4 @@
+pub mod Cheap
+pub mod Leading
+pub mod Listings
+pub mod Ways

@@ -1,0 +1,3 @@
+pub mod Buffer
+pub mod PlanText
+pub mod RefusalLine

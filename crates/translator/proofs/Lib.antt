@@ -1,0 +1,11 @@
+pub mod Cuts
+pub mod Digits
+pub mod Facts
+pub mod Fills
+pub mod Operators
+pub mod Passes
+pub mod Places
+pub mod Repeats
+pub mod Sizes
+pub mod Starts
+pub mod Wholes

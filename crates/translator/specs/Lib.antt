@@ -1,0 +1,10 @@
+pub mod Description
+pub mod Filled
+pub mod Filling
+pub mod Lines
+pub mod Numerals
+pub mod Readers
+pub mod Reads
+pub mod Sections
+pub mod Sound
+pub mod Taken

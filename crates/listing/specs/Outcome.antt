@@ -1,0 +1,45 @@
+-- What is written of a task's cheapest plans. Assumes nothing.
+use mathlib.Core.Path.{_≡_}
+use mathlib.Core.Bool.{Bool, true, false}
+use mathlib.Core.Logic.{_⊎_, _≢_}
+use mathlib.Core.List.{List, [], _∷_, _++_}
+use Prim.Native.Nat.{ℕ, _<_}
+use lib.ListN.{take}
+use Rattle.std.specs.declared.result.Result.{Result}
+use Rattle.std.specs.declared.result.Result.the-variants.{Ok, Err}
+use Rattle.task.specs.Listing.{AllOf}
+use Rattle.task.specs.Model.{Model}
+use Rattle.task.specs.Names.{Names}
+use Rattle.task.specs.Order.{Before}
+use Rattle.task.specs.Plans.{Plan, Cheapest, price}
+use Rattle.task.specs.declared.faults.Fault.{Fault}
+use Rattle.task.specs.declared.faults.Kind.the-variants.{Unfinished}
+use Rattle.task.specs.declared.faults.Layer.the-variants.{Session}
+use Rattle.text.specs.PlanText.{plan-text, answer}
+use Rattle.text.specs.RefusalLine.{refusal-line}
+
+-- the bytes written, and whether a refusal ended them
+abbrev pub Written : Type 0
+Written = List ℕ × Bool
+
+-- a plan's text in front of what follows it, or the line of the refusal in their place
+abbrev pub in-front : Result ℕ Fault → List ℕ → Written → Written
+in-front (Ok end) text w = (text ++ w .0, w .1)
+in-front (Err f) text w = (refusal-line f, true)
+
+-- the texts of the plans, one after the other, up to the first that is longer than 65,536 bytes
+abbrev pub texts : Model → Names → List (List ℕ) → Written
+texts m n [] = ([], false)
+texts m n (os ∷ ps) = in-front (answer m n os 65536) (plan-text m n os) (texts m n ps)
+
+abbrev pub refused-with : Fault → Written
+refused-with f = (refusal-line f, true)
+
+abbrev pub unfinished : Fault
+unfinished = record { kind = Unfinished; place = 0; layer = Session }
+
+-- no plan costs so little, and this is said; or the first hundred of all cheapest plans are written
+abbrev pub Outcome : ℕ → Model → Names → Written → Type 0
+Outcome highest m n w =
+    (((ps : List ℕ) → Plan m ps → highest < price m ps) × (w ≡ refused-with unfinished))
+    ⊎ ((ps : List (List ℕ)) × AllOf Before (Cheapest m) ps × (ps ≢ []) × (w ≡ texts m n (take 100 ps)))

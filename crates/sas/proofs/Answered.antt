@@ -84,8 +84,8 @@ module _ (s : SasTask) (m : s .made ≡ true) where
           ∙ (led-moved (sizes-of (tables-of s)) (now (s .conditions)) state k (used-operators (tables-of s)) o ∙ ap (λ b. meaning-of b (tables-of s) .move state o) (sym m)))
 
     -- the same of one operator that is there
-    pub target-made : (state : ℕ) → state < s .span → (o : ℕ) → o < s .used .operators → led (sizes vs) (now (s .conditions)) state (Some (getD (now (s .operators)) o no-operator)) ≡ task-meaning s .move state o
-    target-made state h o k =
+    pub successor-made : (state : ℕ) → state < s .span → (o : ℕ) → o < s .used .operators → led (sizes vs) (now (s .conditions)) state (Some (getD (now (s .operators)) o no-operator)) ≡ task-meaning s .move state o
+    successor-made state h o k =
         ap (led (sizes vs) (now (s .conditions)) state) (sym (operator-there (tables-of s) (made-in-range s m) o k)) ∙ led-made (used-operators (tables-of s)) refl state h o
 
     pub goal-made : (cs : List Condition) → cs ≡ take (s .used .goal) (now (s .conditions)) → (state : ℕ) → state < s .span → applies cs (values (sizes vs) state) ≡ task-meaning s .goal state

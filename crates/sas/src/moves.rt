@@ -54,7 +54,7 @@ fn reached(variables: &[Variable], values: &mut [u32], conditions: &[Condition])
 }
 
 // The state that the operator leads to from the state, if its conditions hold there.
-pub(crate) fn target(
+pub(crate) fn successor(
     variables: &[Variable],
     conditions: &[Condition],
     operator: Operator,

@@ -9,7 +9,7 @@ ghost use Rattle.sas.specs.Tables.{part};
 use super::SasTask;
 use crate::moves::first_move;
 use crate::moves::holds_in;
-use crate::moves::target;
+use crate::moves::successor;
 use crate::range::span_of;
 use crate::tables::Condition;
 use crate::tables::Operator;
@@ -116,7 +116,7 @@ pub impl Task for SasTask<'_> as SasTaskCalls {
 
     fn step(&self, state: u64, operator: u32) -> Option<u64> {
         if self.made && state < self.span && operator < self.used.operators {
-            target(
+            successor(
                 self.used_variables(),
                 self.conditions,
                 self.operators[operator as usize],

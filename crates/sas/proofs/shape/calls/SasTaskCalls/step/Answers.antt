@@ -2,13 +2,13 @@ use mathlib.Core.Path.{sym, ap, _∙_}
 use native.Mathlib.Omega.{arith}
 use Rattle.task.proofs.Models.{no-operator, no-state}
 use Rattle.sas.specs.Meaning.{task-meaning, tables-of, meaning-of}
-use Rattle.sas.proofs.Answered.{usable-made, fitted-made, target-made, span-made}
+use Rattle.sas.proofs.Answered.{usable-made, fitted-made, successor-made, span-made}
 use Rattle.sas.proofs.Makes.{task-lawful, no-more}
 use Rattle.sas.proofs.shape.calls.SasTaskCalls.step.Needs as need
 use Rattle.sas.proofs.shape.calls.SasTaskCalls.step.Needs.{else-self·by·then-self·then-state-self·else-operator-self, else-self·by·then-self·else-state-self, else-self·by·else-self}
 
-pub target-requires : need.target-requires
-target-requires c κs =
+pub successor-requires : need.successor-requires
+successor-requires c κs =
     record {
       usable = usable-made (c .args .self .now) (c .if-self .taken) _ (c .used-variables .ensures);
       fitted = fitted-made (c .args .self .now) (c .if-self .taken) _ (c .used-variables .ensures) (c .args .operator) (c .if-operator-self .taken);
@@ -16,7 +16,7 @@ target-requires c κs =
 
 pub returns-then-operator-self : need.returns-then-operator-self
 returns-then-operator-self c =
-    c .target .ensures ∙ target-made (c .args .self .now) (c .if-self .taken) _ (c .used-variables .ensures) (c .args .state) (c .if-state-self .taken) (c .args .operator) (c .if-operator-self .taken)
+    c .successor .ensures ∙ successor-made (c .args .self .now) (c .if-self .taken) _ (c .used-variables .ensures) (c .args .state) (c .if-state-self .taken) (c .args .operator) (c .if-operator-self .taken)
 
 pub returns-else-self : need.returns-else-self
 returns-else-self c =

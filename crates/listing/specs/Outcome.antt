@@ -43,3 +43,12 @@ abbrev pub Outcome : ℕ → Model → Names → Written → Type 0
 Outcome highest m n w =
     (((ps : List ℕ) → Plan m ps → highest < price m ps) × (w ≡ refused-with unfinished))
     ⊎ ((ps : List (List ℕ)) × AllOf Before (Cheapest m) ps × (ps ≢ []) × (w ≡ texts m n (take 100 ps)))
+
+-- one plan's text behind what was written, or the line of the refusal, with which the writing ends
+abbrev pub added : Result ℕ Fault → List ℕ → Written
+added (Ok end) text = (text, true)
+added (Err f) text = (refusal-line f, false)
+
+pub record Added (m : Model) (n : Names) (steps before after : List ℕ) (more : Bool) : Type 0 where
+  pub text : after ≡ before ++ added (answer m n steps 65536) (plan-text m n steps) .0
+  pub goes-on : more ≡ added (answer m n steps 65536) (plan-text m n steps) .1

@@ -1,0 +1,4 @@
+pub mod Exits
+pub mod Held
+pub mod Lines
+pub mod Plans

@@ -1,11 +1,9 @@
 // Reads a translator file on standard input and writes its cheapest plans; ends with status 1 after a refusal.
 use listing::list_plans;
-use std::alloc::AllocError;
 use std::alloc::Global;
 use std::io;
 use std::io::Read;
 use std::io::Write;
-use task::Fault;
 use text::write_refusal;
 
 // Why the program ends with status 1.
@@ -24,8 +22,8 @@ impl From<io::Error> for Stopped as StoppedFromIo {
 fn read_input(rt: &LibcRuntime, heap: Global) -> io::Result<Vec<u8>> {
     let mut input = rt.stdin();
     let mut bytes = Vec::new(heap);
-    let mut chunk = [0; 4096];
     for _ in 0..65_537 {
+        let mut chunk = [0; 4096];
         let count = input.read(&mut chunk)?;
         if count == 0 || bytes.len() > 65_536 {
             break;

@@ -37,7 +37,13 @@ pub(crate) fn refusal(heap: Global, fault: Fault) -> Result<Output, Fault>
 }
 
 // The text of one plan behind what is written; false where its refusal's line takes its place.
-fn add_plan<T: NamedTask>(heap: Global, task: &T, steps: &[u32], buffer: &mut [u8], text: &mut Vec<u8>) -> Result<bool, Fault>
+fn add_plan<T: NamedTask>(
+    heap: Global,
+    task: &T,
+    steps: &[u32],
+    buffer: &mut [u8],
+    text: &mut Vec<u8>,
+) -> Result<bool, Fault>
     requires { ⌜ length (now buffer) ≡ 65536 ⌝ }
     ensures { λ r. ⌜ Cases r (λ more. Added (T·Task .meaning (now (task .entry))) (names (now (task .entry))) (now (steps .entry)) (vec-items (now (text .entry))) (vec-items (now (text .exit))) more) (λ f. f ≡ no-memory) ⌝ }
 {
@@ -55,7 +61,12 @@ fn add_plan<T: NamedTask>(heap: Global, task: &T, steps: &[u32], buffer: &mut [u
 }
 
 // The first hundred plans, one behind the other, up to the first whose text is refused.
-fn write_plans<T: NamedTask>(heap: Global, task: &T, plans: &Vec<Vec<u32>>, buffer: &mut [u8]) -> Result<Output, Fault>
+fn write_plans<T: NamedTask>(
+    heap: Global,
+    task: &T,
+    plans: &Vec<Vec<u32>>,
+    buffer: &mut [u8],
+) -> Result<Output, Fault>
     requires { ⌜ length (now buffer) ≡ 65536 ⌝ }
     ensures { λ r. ⌜ Cases r (λ o. written o ≡ texts (T·Task .meaning (now (task .entry))) (names (now (task .entry))) (take 100 (plans-of (now (plans .entry))))) (λ f. f ≡ no-memory) ⌝ }
 {

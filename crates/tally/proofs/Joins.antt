@@ -70,10 +70,10 @@ module _ {V : Type 0} (y : Summary V) (laws : Lawful y) where
   pub joined-push : (vs : List V) (v : V) → joined y (vs ++ v ∷ []) ≡ joined-with y (joined y vs) (Some v)
   joined-push vs v = joined-append vs (v ∷ [])
 
-  -- one more value of a list
-  pub joined-more : (vs : List V) (i : ℕ) (v : V) → i < length vs → v ≡ getD vs i v → joined y (take (i + 1) vs) ≡ joined-with y (joined y (take i vs)) (Some v)
-  joined-more vs i v h e =
-      ap (joined y) (take-more vs i v h ∙ ap (λ w. take i vs ++ w ∷ []) (sym e)) ∙ joined-push (take i vs) v
+  -- one more value of a list, r being the join of those before it
+  pub joined-more : (vs : List V) (i : ℕ) (v : V) → i < length vs → v ≡ getD vs i v → (r : Option V) → r ≡ joined y (take i vs) → joined-with y r (Some v) ≡ joined y (take (i + 1) vs)
+  joined-more vs i v h e r f =
+      ap (λ q. joined-with y q (Some v)) f ∙ sym (joined-push (take i vs) v) ∙ ap (λ w. joined y (take i vs ++ w ∷ [])) e ∙ ap (joined y) (sym (take-more vs i v h))
 
   -- a join is extended value by value
   joined-with-extended : (o : ℕ) (a b : Option V) → joined-with y (extended-if y o a) (extended-if y o b) ≡ extended-if y o (joined-with y a b)

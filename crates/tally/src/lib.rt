@@ -19,3 +19,6 @@ pub use tallies::Watch;
 pub use tallies::WatchTally;
 pub use theorems::joins_in_any_order;
 pub use theorems::only_pairs;
+
+#[cfg(test)]
+mod tests;

@@ -12,7 +12,7 @@ use Rattle.std.proofs.shelf.Lists.{take-more}
 use Rattle.std.proofs.shelf.Sorted.{shuffled-keeps}
 use Rattle.tally.specs.Summary.{Summary, Lawful}
 use Rattle.tally.specs.Values.{joined-with, joined}
-use Rattle.tally.specs.Theorems.{AnyOrder}
+use Rattle.tally.specs.Theorems.{AnyOrder, AnyParts}
 
 -- a value extended by o, if there is one
 abbrev pub extended-if : {V : Type 0} → Summary V → ℕ → Option V → Option V
@@ -37,7 +37,7 @@ module _ {V : Type 0} (y : Summary V) (laws : Lawful y) where
   joined-with-exchanges a b c =
       sym (joined-with-associates a b c) ∙ ap (λ d. joined-with y d c) (joined-with-commutes a b) ∙ joined-with-associates b a c
 
-  pub joined-append : (vs ws : List V) → joined y (vs ++ ws) ≡ joined-with y (joined y vs) (joined y ws)
+  pub joined-append : AnyParts y
   joined-append [] ws = refl
   joined-append (v ∷ vs) ws =
       ap (joined-with y (Some v)) (joined-append vs ws) ∙ sym (joined-with-associates (Some v) (joined y vs) (joined y ws))

@@ -1,5 +1,5 @@
 -- What unit, extension and join keep, a plan and a list of values keep too. Assumes nothing.
-use mathlib.Core.Path.{_≡_, refl, ap, subst}
+use mathlib.Core.Path.{_≡_, refl, subst}
 use mathlib.Core.Bool.{Bool, true, false, cond}
 use mathlib.Core.List.{List, [], _∷_}
 use Prim.Native.Nat.{ℕ}
@@ -9,8 +9,8 @@ use Rattle.std.specs.declared.option.Option.{Option}
 use Rattle.std.specs.declared.option.Option.the-variants.{Some, None}
 use Rattle.task.specs.Listing.{Each}
 use Rattle.tally.specs.Summary.{Summary}
-use Rattle.tally.specs.Values.{extended, value-of, joined-with, joined}
-use Rattle.tally.specs.Counts.{watching, pair}
+use Rattle.tally.specs.Values.{extended, joined-with, joined}
+use Rattle.tally.specs.Counts.{watching, pair-of}
 use Rattle.tally.specs.Pairs.{IsPair}
 use Rattle.tally.specs.Theorems.{Keeps}
 use Rattle.tally.specs.declared.pairs.Pair.{Pair}
@@ -41,7 +41,7 @@ module _ {V : Type 0} (y : Summary V) (P : V → Type 0) (first : P (y .unit)) (
 pair-extends : (w : ℕ) (p : Pair) (o : ℕ) → IsPair p → IsPair (watching w .extend p o)
 pair-extends w p o h = go (eqb o w)
   where
-    go : (b : Bool) → IsPair (cond b (pair (p .all) (p .all)) p)
+    go : (b : Bool) → IsPair (cond b (pair-of (p .all) (p .all)) p)
     go true = record { some = h .some; within = omega arith }
     go false = h
 

@@ -13,14 +13,14 @@ cut n = min n (2 ^ 64 - 1)
 abbrev pub counting : Summary ℕ
 counting = record { unit = 1; extend = λ n o. n; join = λ a b. cut (a + b) }
 
-abbrev pub pair : ℕ → ℕ → Pair
-pair a s = record { all = a; with = s }
+abbrev pub pair-of : ℕ → ℕ → Pair
+pair-of a s = record { all = a; with = s }
 
 -- all plans, and those that contain the operator w
 abbrev pub watching : ℕ → Summary Pair
 watching w =
     record {
-      unit = pair 1 0;
-      extend = λ p o. cond (eqb o w) (pair (p .all) (p .all)) p;
-      join = λ p q. pair (cut (p .all + q .all)) (cut (p .with + q .with));
+      unit = pair-of 1 0;
+      extend = λ p o. cond (eqb o w) (pair-of (p .all) (p .all)) p;
+      join = λ p q. pair-of (cut (p .all + q .all)) (cut (p .with + q .with));
     }

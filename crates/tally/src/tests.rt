@@ -1,4 +1,4 @@
-// Counts that are cut, and shares.
+// Counts that are cut, a watched operator, and shares.
 use crate::pairs::Pair;
 use crate::pairs::PairDebug;
 use crate::pairs::PairPartialEq;

@@ -1,0 +1,4 @@
+pub mod Joins
+pub mod Steps
+pub mod Kept
+pub mod Quotients

@@ -2,6 +2,7 @@
 ghost use mathlib.Core.Path.{_≡_};
 ghost use denote.Ref.{now};
 ghost use Rattle.layers.specs.Barred.{barred};
+ghost use Rattle.layers.specs.Layers.{barred-meaning, barred-names};
 use task::NamedTask;
 use task::Task;
 
@@ -13,7 +14,8 @@ pub struct Barred<'a, T> {
 impl<'a, T: Task> Barred<'a, T> {
     // The task without the moves of the operator; an operator number that the task lacks alters nothing.
     pub fn new(task: &'a T, operator: u32) -> Barred<'a, T>
-        ensures { λ r. ⌜ BarredTask .meaning r ≡ barred operator (T·Task .meaning (now (task .entry))) ⌝ }
+        ensures meant { λ r. ⌜ barred-meaning (T·Task .meaning) r ≡ barred operator (T·Task .meaning (now (task .entry))) ⌝ }
+        ensures lent { λ r. ⌜ now (r .below) ≡ now (task .entry) ⌝ }
     {
         Barred {
             below: task,
@@ -23,7 +25,7 @@ impl<'a, T: Task> Barred<'a, T> {
 }
 
 pub impl<T: Task> Task for Barred<'_, T> as BarredTask {
-    ghost meaning = { λ b. barred (b .operator) (T·Task .meaning (now (b .below))) };
+    ghost meaning = { λ b. barred-meaning (T·Task .meaning) b };
 
     fn operators(&self) -> u32 {
         self.below.operators()
@@ -68,7 +70,7 @@ pub impl<T: Task> Task for Barred<'_, T> as BarredTask {
 }
 
 pub impl<T: NamedTask> NamedTask for Barred<'_, T> as BarredNames {
-    ghost names = { λ b. T·NamedTask .names (now (b .below)) };
+    ghost names = { λ b. barred-names (T·NamedTask .names) b };
 
     fn name(&self, operator: u32) -> &[u8] {
         self.below.name(operator)

@@ -1,6 +1,11 @@
-// Layers over any task: one operator barred, or one operator required.
+// Layers over any task: one operator barred, or one operator required. A layer lends the task below it and is
+// itself a task, so layers can be piled.
 mod barred;
+mod required;
 
 pub use barred::Barred;
 pub use barred::BarredNames;
 pub use barred::BarredTask;
+pub use required::Required;
+pub use required::RequiredNames;
+pub use required::RequiredTask;

@@ -6,6 +6,7 @@ ghost use Rattle.layers.specs.Layers.{barred-meaning, barred-names};
 use task::NamedTask;
 use task::Task;
 
+#[derive(Drop)]
 pub struct Barred<'a, T> {
     below: &'a T,
     operator: u32,
@@ -61,9 +62,7 @@ pub impl<T: Task> Task for Barred<'_, T> as BarredTask {
 
     fn next_move(&self, state: u64, from: u32) -> Option<(u32, u64)> {
         match self.below.next_move(state, from) {
-            Some((operator, _)) if operator == self.operator => {
-                self.below.next_move(state, operator + 1)
-            }
+            Some((first, _)) if first == self.operator => self.below.next_move(state, first + 1),
             found => found,
         }
     }

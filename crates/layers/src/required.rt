@@ -10,6 +10,7 @@ use task::Kind;
 use task::NamedTask;
 use task::Task;
 
+#[derive(Drop)]
 pub struct Required<'a, T> {
     below: &'a T,
     operator: u32,

@@ -1,17 +1,16 @@
--- A task without one of its operators: the laws, first moves and plans. Assumes nothing.
-use mathlib.Core.Path.{_≡_, refl, sym, _∙_, ap}
-use mathlib.Core.Bool.{Bool, true, false, cond}
+-- A task without one of its operators: the laws and the plans. Assumes nothing.
+use mathlib.Core.Path.{_≡_, refl, sym}
+use mathlib.Core.Bool.{Bool, true, false}
 use mathlib.Core.Logic.{inl, inr, ⊎-elim}
 use mathlib.Core.List.{List, [], _∷_}
-use Prim.Native.Nat.{ℕ, _+_, _≤_, _<_}
+use Prim.Native.Nat.{ℕ}
 use native.Mathlib.Omega.{arith}
 use lib.Dec.{eqb}
 use borrow.Author.Tests.{ne-eqb, eqb-false}
-use Rattle.std.specs.declared.option.Option.{Option}
-use Rattle.std.specs.declared.option.Option.the-variants.{Some, None}
+use Rattle.std.specs.declared.option.Option.the-variants.{Some}
 use Rattle.task.specs.Listing.{In}
 use Rattle.task.specs.Model.{Model, Lawful}
-use Rattle.task.specs.Plans.{then-on, follow}
+use Rattle.task.specs.Plans.{follow}
 use Rattle.layers.specs.Theorems.{Barred-plans, Barred-beyond}
 use Rattle.layers.proofs.Following.{came-on, goes-on, used-below, same-price}
 use Rattle.layers.specs.Barred.{barred}

@@ -6,15 +6,14 @@ use mathlib.Core.List.{List, [], _∷_}
 use Prim.Native.Nat.{ℕ, _+_, _*_, _/_, _%_, _^_, _≤_, _<_}
 use native.Mathlib.Omega.{arith}
 use lib.Dec.{eqb, leb}
-use borrow.Author.Tests.{eq-eqb, ne-eqb, eqb-true, leb-true}
-use Rattle.std.proofs.str.Laws.{order}
+use borrow.Author.Tests.{eq-eqb, eqb-true, leb-true, le-leb, lt-leb}
 use Rattle.std.specs.declared.option.Option.{Option}
-use Rattle.std.specs.declared.option.Option.the-variants.{Some, None}
+use Rattle.std.specs.declared.option.Option.the-variants.{Some}
 use Rattle.task.specs.Listing.{In}
-use Rattle.task.specs.Model.{Model, Lawful, AtMost}
+use Rattle.task.specs.Model.{Model, Lawful}
 use Rattle.task.specs.Names.{Names}
 use Rattle.task.specs.Nothing.{nothing, no-names}
-use Rattle.task.specs.Plans.{then-on, follow, Plan}
+use Rattle.task.specs.Plans.{follow, Plan}
 use Rattle.task.proofs.Nothing.{nothing-lawful}
 use Rattle.layers.specs.Layers.{where-doubled, required-made}
 use Rattle.layers.specs.Required.{used-after, required}
@@ -73,6 +72,14 @@ required-lawful o m fits l =
       aware = λ s e. l .aware (s / 2) (goal-below m o s e .0);
       consistent = λ s p w e. l .consistent (s / 2) p (w / 2) (move-below m o s p w e .0);
     }
+
+-- what is made where the span below can be doubled
+pub made-required : (o : ℕ) (m : Model) → m .span ≤ 2 ^ 61 → required-made o m ≡ required o m
+made-required o m h = rw (le-leb (m .span) (2 ^ 61) h)
+
+-- and where it cannot
+pub made-nothing : (o : ℕ) (m : Model) → 2 ^ 61 < m .span → required-made o m ≡ nothing
+made-nothing o m h = rw (lt-leb (m .span) (2 ^ 61) h)
 
 -- what is made keeps the laws
 pub made-lawful : (o : ℕ) (m : Model) → Lawful m → Lawful (required-made o m)

@@ -1,5 +1,4 @@
 -- What each layer means, over what the task below means. Assumes nothing.
-use mathlib.Core.Path.{_≡_}
 use mathlib.Core.Bool.{cond}
 use Prim.Native.Nat.{ℕ, _^_}
 use lib.Dec.{leb}

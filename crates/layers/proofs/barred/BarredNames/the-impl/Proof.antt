@@ -18,7 +18,6 @@ use denote.Triple.Table.{run-framed, widened}
 use Rattle.layers.specs.contracts.barred.Barred.{the-row}
 use Rattle.layers.specs.contracts.barred.BarredNames.the-impl as this
 use Rattle.layers.specs.contracts.barred.BarredTask.the-impl as task
-use Rattle.layers.proofs.Barring.{barred-lawful}
 use Rattle.layers.proofs.barred.BarredNames.the-impl.Statement.{statement}
 use Rattle.layers.proofs.barred.BarredNames.name.Met as name·met
 use Rattle.layers.proofs.barred.BarredNames.name.Symbol as name·symbol

@@ -1,0 +1,4 @@
+pub mod Barred
+pub mod Required
+pub mod Layers
+pub mod Theorems

@@ -21,7 +21,8 @@ use Rattle.task.specs.Plans.{Plan, Cheapest, price}
 use Rattle.enumerate.specs.Completes.{Completes}
 use Rattle.enumerate.specs.Found.{Found}
 use Rattle.enumerate.specs.Lists.{plans-of}
-use Rattle.enumerate.proofs.Listings.{all-of-alike, each-weaker}
+use Rattle.task.proofs.Listings.{all-of-alike}
+use Rattle.task.proofs.Members.{each-weaker}
 
 module _ (m : Model) (c : ℕ) (least : (ps : List ℕ) → Plan m ps → c ≤ price m ps) where
   -- no plan costs c: each costs more

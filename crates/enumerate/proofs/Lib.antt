@@ -1,4 +1,3 @@
 pub mod Cheap
 pub mod Leading
-pub mod Listings
 pub mod Ways

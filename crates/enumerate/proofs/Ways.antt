@@ -13,7 +13,7 @@ use Rattle.task.specs.Moves.{FirstMove}
 use Rattle.task.specs.Order.{Before}
 use Rattle.task.specs.Plans.{then-on, follow, price, Reaches}
 use Rattle.enumerate.specs.Completes.{Completes, CompletesBelow}
-use Rattle.enumerate.proofs.Listings.{all-of-alike, all-of-either, all-of-led, LedBy}
+use Rattle.task.proofs.Listings.{all-of-alike, all-of-either, all-of-led, LedBy}
 
 -- where going on leads somewhere, there was a state to go on from
 pub then-on-some : (x : Option ℕ) (f : ℕ → Option ℕ) (u : ℕ) → then-on x f ≡ Some u → (t : ℕ) × (x ≡ Some t) × (f t ≡ Some u)

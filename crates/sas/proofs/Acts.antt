@@ -10,7 +10,7 @@ use Rattle.task.specs.Listing.{Each}
 use Rattle.sas.specs.Sas.{nth}
 use Rattle.sas.specs.Tables.{Tables, InRange, ConditionFits, OperatorFits, part, sizes-of, sas-of, action-of, used-operators}
 use Rattle.sas.specs.Values.{Sized}
-use Rattle.sas.proofs.Members.{each-at, each-take, each-drop, each-other}
+use Rattle.task.proofs.Members.{each-at, each-take, each-drop, each-weaker}
 use Rattle.sas.proofs.Walks.{no-operator}
 
 module _ {A : Type 0} where
@@ -37,7 +37,7 @@ module _ (t : Tables) (r : InRange t) where
   actions-count = length-map (used-operators t) (action-of (t .conditions)) ∙ operators-count
 
   pub sizes-sized : Sized (sizes-of t)
-  sizes-sized = each-other (λ n. (1 ≤ n) × (n ≤ 1000)) (λ n. 1 ≤ n) (λ n p. p .0) (sizes-of t) (r .sizes)
+  sizes-sized = each-weaker (λ n. (1 ≤ n) × (n ≤ 1000)) (λ n. 1 ≤ n) (λ n p. p .0) (sizes-of t) (r .sizes)
 
   pub goal-fits : Each (ConditionFits (sizes-of t)) (take (t .used .goal) (t .conditions))
   goal-fits =

@@ -21,7 +21,7 @@ use Rattle.sas.specs.Tables.{part, sizes-of, name-of, used-operators}
 use Rattle.sas.specs.Values.{Within, sizes}
 use Rattle.sas.specs.Scans.{led, Usable, Fitted}
 use Rattle.sas.specs.Meaning.{tables-of, meaning-of, naming-of, task-meaning, task-names}
-use Rattle.sas.proofs.Members.{each-from-at}
+use Rattle.task.proofs.Members.{each-from-at}
 use Rattle.sas.proofs.Acts.{operators-count, actions-count, sizes-sized, goal-fits, used-operator, operator-there, action-there, operator-fits-there, action-fits}
 use Rattle.sas.proofs.Scanned.{fits-within, led-moved}
 use Rattle.sas.proofs.Walks.{no-operator}

@@ -1,4 +1,3 @@
-pub mod Members
 pub mod Tested
 pub mod Assigned
 pub mod Walks

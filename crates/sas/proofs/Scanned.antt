@@ -25,11 +25,11 @@ use Rattle.sas.specs.Values.{Below, Sized, Within, sizes}
 use Rattle.sas.specs.Scans.{acts, led, FirstActing, FirstLed, Placed, Fitted}
 use Rattle.sas.proofs.Acts.{nth-there, nth-past}
 use Rattle.sas.proofs.Assigned.{length-values, values-below}
-use Rattle.sas.proofs.Members.{each-other}
+use Rattle.task.proofs.Members.{each-weaker}
 use Rattle.sas.proofs.Walks.{no-operator}
 
 pub fits-within : (ns : List ℕ) (n : ℕ) (cs : List Condition) → length ns ≡ n → Each (ConditionFits ns) cs → Within n cs
-fits-within ns n cs e f = each-other (ConditionFits ns) (λ c. c .variable < n) (λ c p. omega (arith, p .known)) cs f
+fits-within ns n cs e f = each-weaker (ConditionFits ns) (λ c. c .variable < n) (λ c p. omega (arith, p .known)) cs f
 
 -- values vs that are those of a state
 module _ (vars : List Variable) (s : ℕ) (vs : List ℕ) (e : vs ≡ values (sizes vars) s) where
@@ -48,7 +48,7 @@ before-more P from n f p o h l = ⊎-elim (λ k. f o h k) (λ k. subst P (let e 
 
 pub fitted-placed : (cs : List Condition) (ns : List ℕ) (n : ℕ) (os : List Operator) → length ns ≡ n → Each (Fitted cs ns) os → Each (Placed cs n) os
 fitted-placed cs ns n os e f =
-    each-other (Fitted cs ns) (Placed cs n) (λ o p. record { there = p .there; within = fits-within ns n (part cs (o .first) (o .count)) e (p .fit) }) os f
+    each-weaker (Fitted cs ns) (Placed cs n) (λ o p. record { there = p .there; within = fits-within ns n (part cs (o .first) (o .count)) e (p .fit) }) os f
 
 -- an operator that is there, with its conditions ds
 module _ (cs : List Condition) (os : List Operator) (o : ℕ) (h : o < length os) (ds : List Condition) (d : ds ≡ part cs (getD os o no-operator .first) (getD os o no-operator .count)) where

@@ -15,7 +15,7 @@ use Rattle.sas.specs.declared.tables.Operator.{Operator}
 use Rattle.sas.specs.States.{spanned, values, summed, numbered}
 use Rattle.sas.specs.Actions.{suits, renewed, changed}
 use Rattle.sas.specs.Values.{Below, Sized, Within, sizes}
-use Rattle.sas.proofs.Members.{each-at, each-drop}
+use Rattle.task.proofs.Members.{each-at, each-drop}
 use Rattle.sas.proofs.Assigned.{spanned-positive, length-below, below-sized, numbered-below}
 
 abbrev pub no-variable : Variable

@@ -10,6 +10,7 @@ use Rattle.std.proofs.shelf.Lists.{map-push, take-more-set, length-map, length-
 use Rattle.std.specs.declared.result.Result.the-variants.{Ok, Err}
 use Rattle.task.specs.declared.faults.Fault.{Fault}
 use Rattle.task.specs.Listing.{Each}
+use Rattle.task.proofs.Members.{each-append}
 use Rattle.sas.specs.declared.tables.Variable.{Variable}
 use Rattle.sas.specs.States.{spanned}
 use Rattle.translator.specs.Lines.{Place}
@@ -25,10 +26,6 @@ use Rattle.translator.proofs.Repeats.{repeat-on, repeat-fault, repeat-done, ch
 pub spanned-push : (ns : List ℕ) (n : ℕ) → spanned (ns ++ n ∷ []) ≡ spanned ns * n
 spanned-push [] n = mul-comm n 1
 spanned-push (m ∷ ns) n = ap (λ k. m * k) (spanned-push ns n) ∙ sym (mul-assoc m (spanned ns) n)
-
-each-push : {A : Type 0} (P : A → Type 0) (xs : List A) (x : A) → Each P xs → P x → Each P (xs ++ x ∷ [])
-each-push P [] x e p = (p, tt)
-each-push P (y ∷ xs) x e p = (e .0, each-push P xs x (e .1) p)
 
 pub record Sofar (count : ℕ) (write : Bool) (table₀ : List Variable) (p₀ : Place) (i : ℕ) (p : Place) (sizes : List ℕ) (span : ℕ) (table : List Variable) (vs : List DescribedVariable) : Type 0 where
   pub on : repeated next-variable count [] p₀ ≡ repeated next-variable (count - i) vs p
@@ -75,7 +72,7 @@ module _ (count : ℕ) (write : Bool) (table₀ : List Variable) (p₀ : Place) 
           spans = wider ∙ ap (λ m. m * n) (so .spans) ∙ sym (spanned-push (sizes-in vs) n) ∙ ap spanned (sym more-sizes);
           positive = subst (λ m. 1 ≤ m) (sym wider) (mul-le-mul (so .positive) low);
           narrow = subst (λ m. m ≤ 2 ^ 60) (sym wider) fits;
-          each = subst (Each (λ m. 1 ≤ m)) (sym more-sizes) (each-push (λ m. 1 ≤ m) (sizes-in vs) n (so .each) low);
+          each = subst (Each (λ m. 1 ≤ m)) (sym more-sizes) (each-append (λ m. 1 ≤ m) (sizes-in vs) (n ∷ []) (so .each) (low, tt));
           laid = stored ∙ ap (λ k. cond write (set table i (record { size = k })) table) (sym is) ∙ ap (λ k. cond write (set table k (variable-record v)) table) place ∙ filled-more write table₀ table 0 (variable-records vs) (variable-record v) (so .laid) ∙ ap (filled write table₀ 0) (sym (map-push variable-record vs v));
         }
 

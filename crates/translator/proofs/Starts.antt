@@ -1,16 +1,17 @@
 -- The start values read so far, and the number that they make. Assumes nothing.
 use mathlib.Core.Path.{_≡_, refl, sym, ap, subst, _∙_}
 use mathlib.Core.List.{List, [], _∷_, _++_}
-use Prim.Native.Nat.{ℕ, zero, suc, _+_, _-_, _*_, _^_, _≤_, _<_}
+use Prim.Native.Nat.{ℕ, _+_, _-_, _*_, _^_, _≤_, _<_}
 use native.Mathlib.Omega.{arith}
-use native.Mathlib.Nat.{mul-comm, mul-assoc, mul-add, mul-one, add-zero, mul-le-mul, mul-le-mul-left}
+use native.Mathlib.Nat.{mul-comm, mul-assoc, mul-add, mul-one, mul-le-mul-left}
 use lib.ListN.{length, getD, take, drop}
 use Rattle.std.proofs.shelf.Lists.{length-push, length-take-le, take-more, take-append-drop, take-all}
 use Rattle.std.specs.declared.result.Result.the-variants.{Ok, Err}
 use Rattle.task.specs.declared.faults.Fault.{Fault}
 use Rattle.task.specs.declared.faults.Kind.the-variants.{BadNumber}
-use Rattle.task.specs.Listing.{Each}
+use Rattle.task.proofs.Members.{each-at, each-drop}
 use Rattle.sas.specs.States.{spanned, summed, numbered}
+use Rattle.sas.proofs.Assigned.{spanned-positive}
 use Rattle.translator.specs.Lines.{Place}
 use Rattle.translator.specs.Reads.{Read}
 use Rattle.translator.specs.Sections.{repeated, number-line, start-line}
@@ -24,29 +25,15 @@ summed-push w [] (y ∷ vs) n v e = absurd (omega arith)
 summed-push w (m ∷ ns) [] n v e = absurd (omega arith)
 summed-push w (m ∷ ns) (y ∷ vs) n v e = omega (arith, summed-push (w * m) ns vs n v (omega arith), ap (λ k. k * v) (mul-assoc w m (spanned ns)))
 
-each-drop : (P : ℕ → Type 0) (ns : List ℕ) (i : ℕ) → Each P ns → Each P (drop i ns)
-each-drop P ns zero e = e
-each-drop P [] (suc i) e = e
-each-drop P (n ∷ ns) (suc i) e = each-drop P ns i (e .1)
-
 spanned-append : (ns ms : List ℕ) → spanned (ns ++ ms) ≡ spanned ns * spanned ms
 spanned-append [] ms = omega (arith, mul-comm 1 (spanned ms), mul-one (spanned ms))
 spanned-append (n ∷ ns) ms = ap (λ k. n * k) (spanned-append ns ms) ∙ sym (mul-assoc n (spanned ns) (spanned ms))
-
-spanned-some : (ns : List ℕ) → Each (λ n. 1 ≤ n) ns → 1 ≤ spanned ns
-spanned-some [] e = omega arith
-spanned-some (n ∷ ns) e = mul-le-mul (e .0) (spanned-some ns (e .1))
-
-each-here : (P : ℕ → Type 0) (ns : List ℕ) (i : ℕ) → i < length ns → Each P ns → P (getD ns i 0)
-each-here P [] i h e = absurd (omega arith)
-each-here P (n ∷ ns) zero h e = e .0
-each-here P (n ∷ ns) (suc i) h e = each-here P ns i (omega arith) (e .1)
 
 module _ (ns : List ℕ) (sound : SoundSizes ns) where
   -- a front spans no more than the whole
   front-spans : (i : ℕ) → spanned (take i ns) ≤ 2 ^ 60
   front-spans i =
-      let back = spanned-some (drop i ns) (each-drop (λ n. 1 ≤ n) ns i (sound .each)) in
+      let back = spanned-positive (drop i ns) (each-drop (λ n. 1 ≤ n) i ns (sound .each)) in
       let whole : spanned (take i ns) * spanned (drop i ns) ≡ spanned ns = sym (spanned-append (take i ns) (drop i ns)) ∙ ap spanned (take-append-drop i ns) in
       omega (arith, mul-le-mul-left (spanned (take i ns)) back, mul-one (spanned (take i ns)), sound .narrow)
 
@@ -76,7 +63,7 @@ module _ (ns : List ℕ) (sound : SoundSizes ns) where
     module _ (v : ℕ) (small : v ≤ getD ns i 0 - 1) where
       pub fits : (number + weight * v < weight * getD ns i 0) × (weight * getD ns i 0 ≤ 2 ^ 60)
       fits =
-          let some = each-here (λ n. 1 ≤ n) ns i here (sound .each) in
+          let some = each-at (λ n. 1 ≤ n) ns i 0 here (sound .each) in
           let step : weight * v + weight ≡ weight * (v + 1) = omega (arith, mul-add weight v 1, mul-one weight) in
           (omega (arith, so .below, step, mul-le-mul-left {m = v + 1} {n = getD ns i 0} weight (omega arith)), omega (arith, next-front, front-spans (i + 1)))
 

@@ -6,7 +6,7 @@ use lib.ListN.{length}
 use Rattle.std.proofs.str.Laws.{order}
 use Rattle.sas.specs.Scans.{Placed}
 use Rattle.sas.specs.Values.{Within}
-use Rattle.sas.proofs.Members.{each-at}
+use Rattle.task.proofs.Members.{each-at}
 use Rattle.sas.proofs.Scanned.{acts-there, acts-past, before-more}
 use Rattle.sas.proofs.Walks.{no-operator}
 use Rattle.sas.proofs.moves.first_acting.Needs as need

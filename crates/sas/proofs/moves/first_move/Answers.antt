@@ -4,7 +4,7 @@ use Rattle.task.specs.Listing.{Each}
 use Rattle.sas.specs.Scans.{Fitted}
 use Rattle.sas.specs.Tables.{ConditionFits}
 use Rattle.sas.specs.Values.{sizes}
-use Rattle.sas.proofs.Members.{each-at}
+use Rattle.task.proofs.Members.{each-at}
 use Rattle.sas.proofs.Scanned.{length-decoded, below-decoded, fitted-placed, first-led}
 use Rattle.sas.proofs.Walks.{no-operator}
 use Rattle.sas.proofs.moves.first_move.Needs as need

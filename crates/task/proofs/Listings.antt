@@ -4,44 +4,9 @@ use mathlib.Core.Logic.{_⊎_, inl, inr, ⊎-elim}
 use mathlib.Core.List.{List, [], _∷_, _++_, map}
 use Prim.Native.Nat.{ℕ, _<_}
 use native.Mathlib.Omega.{arith}
 use Rattle.task.specs.Listing.{Each, In, Ascending, AllOf}
 use Rattle.task.specs.Order.{Before}
-
-module _ {A : Type 0} where
-  pub each-weaker : (P Q : A → Type 0) → ((y : A) → P y → Q y) → (xs : List A) → Each P xs → Each Q xs
-  each-weaker P Q f [] e = tt
-  each-weaker P Q f (x ∷ xs) e = (f x (e .0), each-weaker P Q f xs (e .1))
-
-  pub each-both : (P Q : A → Type 0) (xs : List A) → Each P xs → Each Q xs → Each (λ y. P y × Q y) xs
-  each-both P Q [] e h = tt
-  each-both P Q (x ∷ xs) e h = ((e .0, h .0), each-both P Q xs (e .1) (h .1))
-
-  pub each-append : (P : A → Type 0) (xs ys : List A) → Each P xs → Each P ys → Each P (xs ++ ys)
-  each-append P [] ys e h = h
-  each-append P (x ∷ xs) ys e h = (e .0, each-append P xs ys (e .1) h)
-
-  pub each-at : (P : A → Type 0) (xs : List A) → Each P xs → (y : A) → In y xs → P y
-  each-at P [] e y i = absurd i
-  each-at P (x ∷ xs) e y (inl p) = subst P (sym p) (e .0)
-  each-at P (x ∷ xs) e y (inr i) = each-at P xs (e .1) y i
-
-  pub in-left : (y : A) (xs ys : List A) → In y xs → In y (xs ++ ys)
-  in-left y [] ys i = absurd i
-  in-left y (x ∷ xs) ys (inl p) = inl p
-  in-left y (x ∷ xs) ys (inr i) = inr (in-left y xs ys i)
-
-  pub in-right : (y : A) (xs ys : List A) → In y ys → In y (xs ++ ys)
-  in-right y [] ys i = i
-  in-right y (x ∷ xs) ys i = inr (in-right y xs ys i)
-
-  pub in-map : {B : Type 0} (f : A → B) (y : A) (xs : List A) → In y xs → In (f y) (map f xs)
-  in-map f y [] i = absurd i
-  in-map f y (x ∷ xs) (inl p) = inl (ap f p)
-  in-map f y (x ∷ xs) (inr i) = inr (in-map f y xs i)
-
-  pub each-map : {B : Type 0} (f : A → B) (P : B → Type 0) (xs : List A) → Each (λ x. P (f x)) xs → Each P (map f xs)
-  each-map f P [] e = tt
-  each-map f P (x ∷ xs) e = (e .0, each-map f P xs (e .1))
+use Rattle.task.proofs.Members.{each-weaker, each-both, each-append, each-in, in-left, in-right, in-map, each-map}
 
 module _ {A : Type 0} (R : A → A → Type 0) where
   pub ascending-append : (P Q : A → Type 0) → ((x y : A) → P x → Q y → R x y) → (xs ys : List A) → Ascending R xs → Each P xs → Ascending R ys → Each Q ys → Ascending R (xs ++ ys)
@@ -96,7 +61,7 @@ module _ {A : Type 0} (R : A → A → Type 0) where
     where
       same : x ≡ y
       same =
-          ⊎-elim (λ e. e) (λ i. ⊎-elim sym (λ j. absurd (asym x y (each-at (R x) xs (a .ascending .0) y j) (each-at (R y) ys (b .ascending .0) x i))) (a .whole y (b .each .0))) (b .whole x (a .each .0))
+          ⊎-elim (λ e. e) (λ i. ⊎-elim sym (λ j. absurd (asym x y (each-in (R x) xs (a .ascending .0) y j) (each-in (R y) ys (b .ascending .0) x i))) (a .whole y (b .each .0))) (b .whole x (a .each .0))
 
 -- the listing order is strict
 pub not-before-itself : (os : List ℕ) → Before os os → ⊥

@@ -1,0 +1,4 @@
+pub mod Entries
+pub mod Firsts
+pub mod Sorts
+pub mod Targets

@@ -1,0 +1,10 @@
+// Charts: tasks whose states, moves and estimates are listed in tables. Tables that the check refuses make
+// the empty task.
+mod tables;
+mod index;
+mod checks;
+mod shape;
+
+pub use shape::Chart;
+pub use tables::Arc;
+pub use tables::ChartTables;

@@ -4,7 +4,7 @@ use mathlib.Core.Bool.{Bool, true, false}
 use mathlib.Core.List.{List, [], _∷_}
 use mathlib.Core.Logic.{⊎-elim}
 use native.Mathlib.Omega.{arith}
-use Prim.Native.Nat.{ℕ, suc, zero, _<_, _≤_}
+use Prim.Native.Nat.{ℕ, suc, zero, _+_, _<_, _≤_}
 use lib.Dec.{eqb}
 use lib.ListN.{length, getD}
 use Rattle.std.proofs.str.Laws.{order}
@@ -14,7 +14,7 @@ use Rattle.std.specs.declared.option.Option.the-variants.{Some, None}
 use Rattle.chart.specs.declared.tables.Arc.{Arc}
 use Rattle.chart.specs.declared.tables.Entry.{Entry}
 use Rattle.chart.specs.Faults.{no-arc}
-use Rattle.chart.specs.Index.{before, in-order, of-arc, entered, no-entry, Indexed, Bound, NextArc}
+use Rattle.chart.specs.Index.{before, in-order, of-arc, entered, no-entry, Ordered, Indexed, Bound, NextArc}
 use Rattle.chart.specs.Tables.{leads, target}
 use Rattle.chart.proofs.Targets.{target-none}
 
@@ -115,3 +115,10 @@ module _ (arcs : List Arc) (es : List Entry) (x : Indexed arcs es) where
             let q = at-state in
             let p = facts r h .2 in
             grind (arith, tells)
+
+module _ (es : List Entry) (u : Ordered es) (s o m : ℕ) where
+  pub all-before : m < length es → before (getD es m no-entry) s o ≡ true → (k : ℕ) → k < m + 1 → before (getD es k no-entry) s o ≡ true
+  all-before h e k l = before-earlier (getD es k no-entry) (getD es m no-entry) s o (u k m (omega arith) h) e
+
+  pub none-before : before (getD es m no-entry) s o ≡ false → (k : ℕ) → m ≤ k → k < length es → before (getD es k no-entry) s o ≡ false
+  none-before e k l h = before-later (getD es m no-entry) (getD es k no-entry) s o (u m k l h) e

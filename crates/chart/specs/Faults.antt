@@ -7,6 +7,8 @@ use lib.ListN.{length, getD, take}
 use Rattle.std.specs.Options.{isSome}
 use Rattle.std.specs.declared.option.Option.{Option}
 use Rattle.std.specs.declared.option.Option.the-variants.{Some, None}
+use Rattle.std.specs.declared.result.Result.{Result}
+use Rattle.std.specs.declared.result.Result.the-variants.{Ok, Err}
 use Rattle.task.specs.declared.faults.Fault.{Fault}
 use Rattle.task.specs.declared.faults.Kind.{Kind}
 use Rattle.task.specs.declared.faults.Kind.the-variants.{OverLimit, OutOfRange, ArcRepeated, EstimateLaw}
@@ -86,3 +88,7 @@ chart-fault t =
     or-else (fault-unless OverLimit (lengths-fit t))
     (or-else (range-fault t)
     (or-else (fault-at ArcRepeated (first-failing (new-arc (t .arcs)) (length (t .arcs)))) (law-fault t)))
+
+abbrev pub answered : Option Fault → Result (Unit {0}) Fault
+answered None = Ok tt
+answered (Some f) = Err f

@@ -7,7 +7,11 @@ use native.Mathlib.Omega.{arith}
 use Rattle.std.proofs.str.Laws.{order}
 use Rattle.std.specs.declared.option.Option.{Option}
 use Rattle.std.specs.declared.option.Option.the-variants.{Some, None}
-use Rattle.chart.specs.Faults.{first-failing, or-else}
+use Rattle.std.specs.declared.result.Result.the-variants.{Ok, Err}
+use Rattle.task.specs.declared.faults.Fault.{Fault}
+use Rattle.task.specs.declared.faults.Kind.{Kind}
+use Rattle.task.specs.declared.faults.Layer.the-variants.{Chart}
+use Rattle.chart.specs.Faults.{answered, fault-at, first-failing, or-else}
 
 module _ (p : ℕ → Bool) where
   pub none-fails : (n : ℕ) → ((k : ℕ) → k < n → p k ≡ true) → None ≡ first-failing p n
@@ -38,3 +42,10 @@ module _ (p : ℕ → Bool) where
       go rec (Some m) b ex eb = let bad : Some m ≡ None = ap (λ y. or-else y (cond (p n) None (Some n))) (sym ex) ∙ e in absurd (grind arith)
       go rec None false ex eb = let bad : Some n ≡ None = ap (λ c. cond c None (Some n)) (sym eb) ∙ (ap (λ y. or-else y (cond (p n) None (Some n))) (sym ex) ∙ e) in absurd (grind arith)
       go rec None true ex eb = ⊎-elim (rec ex) (λ m. let same : k ≡ n = omega arith in ap p same ∙ eb) (order k n)
+
+  -- what a loop over the numbers below n answers
+  pub answer-none : (kind : Kind) (n : ℕ) → ((k : ℕ) → k < n → p k ≡ true) → Ok tt ≡ answered (fault-at kind (first-failing p n))
+  answer-none kind n h = ap (λ x. answered (fault-at kind x)) (none-fails n h)
+
+  pub answer-first : (kind : Kind) (n i : ℕ) (f : Fault) → i < n → ((k : ℕ) → k < i → p k ≡ true) → p i ≡ false → f ≡ record { kind = kind; place = i; layer = Chart } → Err f ≡ answered (fault-at kind (first-failing p n))
+  answer-first kind n i f l h e g = ap Err g ∙ ap (λ x. answered (fault-at kind x)) (first-fails n i l h e)

@@ -43,8 +43,8 @@ lengths-fit t =
     (leb 1 (length (t .goals)) && leb (length (t .goals)) 65535)
     && (eqb (length (t .estimates)) (length (t .goals)) && (leb (length (t .costs)) 4096 && (eqb (length (t .ends)) (length (t .costs)) && leb (length (t .arcs)) 65535)))
 
-abbrev pub cost-fits : List ℕ → ℕ → Bool
-cost-fits costs o = leb 1 (getD costs o 0) && leb (getD costs o 0) 1000000
+abbrev pub cost-fits : ℕ → Bool
+cost-fits c = leb 1 c && leb c 1000000
 
 -- name o ends no earlier than it begins, within a text of so many bytes
 abbrev pub end-fits : ℕ → List ℕ → ℕ → Bool
@@ -74,20 +74,24 @@ arc-lawful t a = at-most (estimate-of t (a .from)) (getD (t .costs) (a .operator
 abbrev pub range-fault : Tables → Option Fault
 range-fault t =
     or-else (fault-unless OutOfRange (ltb (t .start) (length (t .goals))))
-    (or-else (fault-at OutOfRange (first-failing (cost-fits (t .costs)) (length (t .costs))))
+    (or-else (fault-at OutOfRange (first-failing (λ o. cost-fits (getD (t .costs) o 0)) (length (t .costs))))
     (or-else (fault-at OutOfRange (first-failing (end-fits (length (t .text)) (t .ends)) (length (t .ends))))
     (fault-at OutOfRange (first-failing (λ k. arc-fits (length (t .goals)) (length (t .costs)) (getD (t .arcs) k no-arc)) (length (t .arcs))))))
+
+-- what is seen without comparing records
+abbrev pub table-fault : Tables → Option Fault
+table-fault t = or-else (fault-unless OverLimit (lengths-fit t)) (range-fault t)
 
 abbrev pub law-fault : Tables → Option Fault
 law-fault t =
     or-else (fault-at EstimateLaw (first-failing (goal-aware (t .goals) (t .estimates)) (length (t .goals))))
     (fault-at EstimateLaw (first-failing (λ k. arc-lawful t (getD (t .arcs) k no-arc)) (length (t .arcs))))
 
+abbrev pub repeat-fault : Tables → Option Fault
+repeat-fault t = fault-at ArcRepeated (first-failing (new-arc (t .arcs)) (length (t .arcs)))
+
 abbrev pub chart-fault : Tables → Option Fault
-chart-fault t =
-    or-else (fault-unless OverLimit (lengths-fit t))
-    (or-else (range-fault t)
-    (or-else (fault-at ArcRepeated (first-failing (new-arc (t .arcs)) (length (t .arcs)))) (law-fault t)))
+chart-fault t = or-else (table-fault t) (or-else (repeat-fault t) (law-fault t))
 
 abbrev pub answered : Option Fault → Result (Unit {0}) Fault
 answered None = Ok tt

@@ -2,7 +2,7 @@
 use mathlib.Core.Bool.{Bool, false, cond, _&&_}
 use mathlib.Core.List.{List, [], _∷_}
 use Prim.Native.Nat.{ℕ, _-_}
-use lib.Dec.{eqb}
+use lib.Dec.{eqb, ltb}
 use lib.ListN.{length, getD, take, drop}
 use denote.Ref.{now}
 use Rattle.std.specs.declared.option.Option.{Option}
@@ -34,9 +34,9 @@ contents t =
       start = t .start;
     }
 
--- the largest number stands for no estimate
+-- the largest number of the table stands for no estimate
 abbrev pub hope : ℕ → Option ℕ
-hope e = cond (eqb e 4294967295) None (Some e)
+hope e = cond (ltb e 4294967295) (Some e) None
 
 -- a number past the end of the table has no estimate
 abbrev pub estimate-of : Tables → ℕ → Option ℕ

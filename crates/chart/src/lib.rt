@@ -6,5 +6,7 @@ mod checks;
 mod shape;
 
 pub use shape::Chart;
+pub use shape::ChartCalls;
+pub use shape::ChartNames;
 pub use tables::Arc;
 pub use tables::ChartTables;

@@ -14,6 +14,9 @@ use crate::tables::Entry;
 
 mod calls;
 
+pub use calls::ChartCalls;
+pub use calls::ChartNames;
+
 // The task of the tables where `made`, with an entry for each arc, and the empty task where not.
 #[derive(Drop)]
 pub struct Chart<'a> {

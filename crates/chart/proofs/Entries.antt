@@ -84,11 +84,11 @@ module _ (arcs : List Arc) (es : List Entry) (x : Indexed arcs es) where
     pub none-elsewhere : r < length es → (getD arcs (getD es r no-entry .arc) no-arc .from ≡ s → ⊥) → (o : ℕ) → from ≤ o → target arcs s o ≡ None
     none-elsewhere h n o l =
         no-target s o (λ k m e f.
-          let up = not-below k o e f l in
-          let i = x .ordered r k up m in
-          let a = b .above r (omega arith) h in
-          let same : getD es r no-entry .from ≡ s = grind (arith, tells) in
-          n (sym (facts r h .1) ∙ same))
+        let up = not-below k o e f l in
+        let i = x .ordered r k up m in
+        let a = b .above r (omega arith) h in
+        let same : getD es r no-entry .from ≡ s = grind (arith, tells) in
+        n (sym (facts r h .1) ∙ same))
 
     pub next-found : r < length es → getD arcs (getD es r no-entry .arc) no-arc .from ≡ s → NextArc arcs s from (Some (getD es r no-entry .arc))
     next-found h e =

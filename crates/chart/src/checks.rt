@@ -97,7 +97,9 @@ fn check_ends(bytes: usize, ends: &[usize]) -> Result<(), Fault>
 fn is_in_range(states: usize, operators: usize, arc: Arc) -> bool
     ensures { λ r. ⌜ r ≡ arc-fits states operators arc ⌝ }
 {
-    (arc.from as usize) < states && (arc.to as usize) < states && (arc.operator as usize) < operators
+    (arc.from as usize) < states
+        && (arc.to as usize) < states
+        && (arc.operator as usize) < operators
 }
 
 // The arcs, each between states that are there, by an operator that is there.
@@ -163,7 +165,11 @@ pub(crate) fn cost_at(costs: &[u32], operator: u32) -> u32
     ensures { λ r. ⌜ r ≡ getD (now (costs .entry)) operator 0 ⌝ }
 {
     let operator = operator as usize;
-    if operator < costs.len() { costs[operator] } else { 0 }
+    if operator < costs.len() {
+        costs[operator]
+    } else {
+        0
+    }
 }
 
 // The estimate of a state; none where it is hopeless or there is no such state.
@@ -187,7 +193,11 @@ fn is_aware(goals: &[bool], estimates: &[u32], state: usize) -> bool
     requires estimate { ⌜ state < length (now estimates) ⌝ }
     ensures { λ r. ⌜ r ≡ goal-aware (now (goals .entry)) (now (estimates .entry)) state ⌝ }
 {
-    if goals[state] { estimates[state] == 0 } else { true }
+    if goals[state] {
+        estimates[state] == 0
+    } else {
+        true
+    }
 }
 
 // The goals, each with the estimate 0.

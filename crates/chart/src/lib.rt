@@ -1,9 +1,9 @@
 // Charts: tasks whose states, moves and estimates are listed in tables. Tables that the check refuses make
 // the empty task.
-mod tables;
-mod index;
 mod checks;
+mod index;
 mod shape;
+mod tables;
 
 pub use shape::Chart;
 pub use shape::ChartCalls;

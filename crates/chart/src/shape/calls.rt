@@ -61,12 +61,7 @@ impl<'a> Chart<'a> {
         if !self.made || state >= self.tables.goals.len() as u64 {
             return None;
         }
-        match next_arc(
-            self.tables.arcs,
-            self.index.as_slice(),
-            state as u32,
-            from,
-        ) {
+        match next_arc(self.tables.arcs, self.index.as_slice(), state as u32, from) {
             Some(arc) => Some(self.tables.arcs[arc]),
             None => None,
         }
@@ -87,7 +82,11 @@ pub impl Task for Chart<'_> as ChartCalls {
     ghost meaning = { task-meaning };
 
     fn operators(&self) -> u32 {
-        if self.made { self.tables.costs.len() as u32 } else { 0 }
+        if self.made {
+            self.tables.costs.len() as u32
+        } else {
+            0
+        }
     }
 
     fn cost(&self, operator: u32) -> u32 {
@@ -99,11 +98,19 @@ pub impl Task for Chart<'_> as ChartCalls {
     }
 
     fn span(&self) -> u64 {
-        if self.made { self.tables.goals.len() as u64 } else { 1 }
+        if self.made {
+            self.tables.goals.len() as u64
+        } else {
+            1
+        }
     }
 
     fn start(&self) -> u64 {
-        if self.made { self.tables.start as u64 } else { 0 }
+        if self.made {
+            self.tables.start as u64
+        } else {
+            0
+        }
     }
 
     fn is_goal(&self, state: u64) -> bool {

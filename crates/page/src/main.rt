@@ -29,16 +29,21 @@ use text::write_plan;
 
 // Five treatments, by the numbers that the arcs use: crop, despeckle, read, type and bleach.
 const COSTS: [u32; 5] = [1, 1, 2, 6, 1];
+
 const NAMES: [u8; 27] = *b"cropdespecklereadtypebleach";
+
 const ENDS: [usize; 5] = [4, 13, 17, 21, 27];
 
 const CROP: u32 = 0;
+
 const TYPE: u32 = 3;
+
 const BLEACH: u32 = 4;
 
 // Six states of a page: as it came, cropped, despeckled, both, read (the goal), and bleached, which is
 // hopeless. An estimate never exceeds what the way to the goal costs.
 const GOALS: [bool; 6] = [false, false, false, false, true, false];
+
 const ESTIMATES: [u32; 6] = [3, 3, 3, 2, 0, 4_294_967_295];
 
 // Plans are looked for up to this cost.
@@ -77,13 +82,41 @@ impl<T: Drop> From<Refused<T>> for Stopped as StoppedFromRefused {
 // Where each treatment leads.
 fn page_arcs() -> [Arc; 7] {
     [
-        Arc { from: 0, operator: 0, to: 1 },
-        Arc { from: 0, operator: 1, to: 2 },
-        Arc { from: 1, operator: 1, to: 3 },
-        Arc { from: 2, operator: 0, to: 3 },
-        Arc { from: 3, operator: 2, to: 4 },
-        Arc { from: 0, operator: 3, to: 4 },
-        Arc { from: 0, operator: 4, to: 5 },
+        Arc {
+            from: 0,
+            operator: 0,
+            to: 1,
+        },
+        Arc {
+            from: 0,
+            operator: 1,
+            to: 2,
+        },
+        Arc {
+            from: 1,
+            operator: 1,
+            to: 3,
+        },
+        Arc {
+            from: 2,
+            operator: 0,
+            to: 3,
+        },
+        Arc {
+            from: 3,
+            operator: 2,
+            to: 4,
+        },
+        Arc {
+            from: 0,
+            operator: 3,
+            to: 4,
+        },
+        Arc {
+            from: 0,
+            operator: 4,
+            to: 5,
+        },
     ]
 }
 
@@ -150,12 +183,12 @@ fn count_plans(heap: Global, chart: &Chart<'_>) -> Result<usize, Fault> {
 // How many cheapest plans there are before and after despeckling a cropped page leads to bleach. A chart's
 // arcs are written only once the chart has ended; then it is made again.
 fn redraw(heap: Global, arcs: &mut [Arc; 7]) -> Result<(usize, usize), Fault> {
-    let chart = Chart::new(heap, page_tables(&*arcs))?;
-    let before = count_plans(heap, &chart)?;
-    drop(chart);
+    let drawn = Chart::new(heap, page_tables(&*arcs))?;
+    let before = count_plans(heap, &drawn)?;
+    drop(drawn);
     arcs[2].to = 5;
-    let chart = Chart::new(heap, page_tables(&*arcs))?;
-    let after = count_plans(heap, &chart)?;
+    let redrawn = Chart::new(heap, page_tables(&*arcs))?;
+    let after = count_plans(heap, &redrawn)?;
     Ok((before, after))
 }
 
@@ -176,6 +209,9 @@ fn main(rt: LibcRuntime) -> Result<(), Stopped> {
     show_share(&rt, &Required::new(&chart, BLEACH), CROP)?;
     drop(chart);
     let (before, after) = redraw(heap, &mut arcs)?;
-    println!(rt, "cheapest plans before and after an arc is redrawn: {before}, {after}")?;
+    println!(
+        rt,
+        "cheapest plans before and after an arc is redrawn: {before}, {after}"
+    )?;
     Ok(())
 }

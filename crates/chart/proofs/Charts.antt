@@ -1,7 +1,7 @@
 -- The answers of a chart, and what the calls on its tables ask. Assumes nothing.
 use mathlib.Core.Path.{_≡_, refl, sym, ap, subst, _∙_}
 use mathlib.Core.Bool.{Bool, true, false}
-use mathlib.Core.List.{[]}
+use mathlib.Core.List.{List, []}
 use Prim.Native.Nat.{ℕ, _≤_, _<_}
 use native.Mathlib.Omega.{arith}
 use denote.Ref.{now}
@@ -9,9 +9,11 @@ use lib.ListN.{length, getD}
 use Rattle.std.proofs.shelf.Lists.{getD-past}
 use Rattle.std.specs.declared.option.Option.the-variants.{Some, None}
 use Rattle.task.proofs.Models.{no-state}
+use Rattle.std.specs.Of.Vec.{vec-items}
 use Rattle.chart.specs.declared.shape.Chart.{Chart}
+use Rattle.chart.specs.declared.tables.Entry.{Entry}
 use Rattle.chart.specs.Faults.{end-fits, no-arc}
-use Rattle.chart.specs.Index.{NextArc}
+use Rattle.chart.specs.Index.{Indexed, NextArc}
 use Rattle.chart.specs.Meaning.{FirstOut, meaning-of, naming-of, task-meaning, task-names}
 use Rattle.chart.specs.Tables.{contents, charted}
 use Rattle.chart.proofs.Entries.{both-lead}
@@ -55,3 +57,7 @@ module _ (c : Chart) where
           let arcs = now (c .tables .arcs) in
           let o = getD arcs j no-arc .operator in
           (n .2, target-first s o arcs j (n .0) (both-lead (getD arcs j no-arc) s o (n .1) refl) (n .3), n .4)
+
+  pub chart-indexed : c .made ≡ true → (es : List Entry) → es ≡ vec-items (c .index) → Indexed (now (c .tables .arcs)) es
+  chart-indexed m es e =
+      subst (Indexed (now (c .tables .arcs))) (sym e) (record { sound = c .sound m; whole = c .whole m; ordered = λ i j h l. c .ordered i j (m, h, l) })

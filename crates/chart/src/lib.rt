@@ -10,3 +10,6 @@ pub use shape::ChartCalls;
 pub use shape::ChartNames;
 pub use tables::Arc;
 pub use tables::ChartTables;
+
+#[cfg(test)]
+mod tests;

@@ -1,5 +1,5 @@
 use native.Mathlib.Omega.{arith}
-use Rattle.chart.proofs.Charts.{none-past, found-out}
+use Rattle.chart.proofs.Charts.{none-past, found-out, chart-indexed}
 use Rattle.chart.proofs.shape.Chart.next_out.Needs as need
 use Rattle.chart.proofs.shape.Chart.next_out.Needs.{then-not-self·by·then-not-self, then-not-self·by·else-not-self·then-state-self}
 
@@ -13,3 +13,6 @@ returns-then-not-self c =
 pub returns-in-Some : need.returns-in-Some
 returns-in-Some c =
     found-out (c .args .self .now) (c .if-not-self .left) (c .args .state) (c .args .from) (c .in-Some .arc) (c .in-Some .ensures tt)
+
+pub next-arc-requires : need.next-arc-requires
+next-arc-requires c κs = chart-indexed (c .args .self .now) (c .if-not-self .left) (c .as-slice .result .now) (c .as-slice .ensures .value)

@@ -3,11 +3,11 @@ use mathlib.Core.Path.{_≡_}
 use mathlib.Core.Bool.{Bool, true, false}
 use mathlib.Core.Logic.{_⊎_, _≢_}
 use mathlib.Core.List.{List, [], _∷_, _++_}
-use Prim.Native.Nat.{ℕ, _<_}
+use Prim.Native.Nat.{ℕ, _≤_, _<_}
 use lib.ListN.{take}
 use Rattle.std.specs.declared.result.Result.{Result}
 use Rattle.std.specs.declared.result.Result.the-variants.{Ok, Err}
-use Rattle.task.specs.Listing.{AllOf}
+use Rattle.task.specs.Listing.{AllOf, Each}
 use Rattle.task.specs.Model.{Model}
 use Rattle.task.specs.Names.{Names}
 use Rattle.task.specs.Order.{Before}
@@ -38,11 +38,12 @@ refused-with f = (refusal-line f, true)
 abbrev pub unfinished : Fault
 unfinished = record { kind = Unfinished; place = 0; layer = Session }
 
--- no plan costs so little, and this is said; or the first hundred of all cheapest plans are written
+-- no plan costs so little, and this is said; or there are plans that do, and the first hundred of all cheapest
+-- plans are written
 abbrev pub Outcome : ℕ → Model → Names → Written → Type 0
 Outcome highest m n w =
     (((ps : List ℕ) → Plan m ps → highest < price m ps) × (w ≡ refused-with unfinished))
-    ⊎ ((ps : List (List ℕ)) × AllOf Before (Cheapest m) ps × (ps ≢ []) × (w ≡ texts m n (take 100 ps)))
+    ⊎ ((ps : List (List ℕ)) × AllOf Before (Cheapest m) ps × (ps ≢ []) × Each (λ os. price m os ≤ highest) ps × (w ≡ texts m n (take 100 ps)))
 
 -- one plan's text behind what was written, or the line of the refusal, with which the writing ends
 abbrev pub added : Result ℕ Fault → List ℕ → Written

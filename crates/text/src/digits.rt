@@ -5,7 +5,7 @@ ghost use lib.ListN.{drop};
 ghost use Rattle.std.specs.Written.{decimal};
 
 // Writes the digits of `n` at the end of the array, and says where they begin.
-pub fn spell(n: u64, digits: &mut [u8; 20]) -> usize
+pub(crate) fn spell(n: u64, digits: &mut [u8; 20]) -> usize
     ensures begins { λ r. ⌜ r < 20 ⌝ }
     ensures spelled { λ r. ⌜ drop r (now (digits .exit)) ≡ decimal n ⌝ }
 {

@@ -18,7 +18,7 @@ fn end_of(at: usize, length: usize, room: usize) -> Result<usize, Fault>
 }
 
 // Where the pieces end, if they begin at `at`; refused where that is past the room.
-pub fn end_of_all(at: usize, parts: &[&[u8]], room: usize) -> Result<usize, Fault>
+pub(crate) fn end_of_all(at: usize, parts: &[&[u8]], room: usize) -> Result<usize, Fault>
     requires { ⌜ at ≤ room ⌝ }
     ensures { λ r. ⌜ r ≡ fit room (at + length (pieces (now (parts .entry)))) ⌝ }
 {
@@ -41,7 +41,7 @@ fn put(text: &mut [u8], at: usize, bytes: &[u8]) -> usize
 }
 
 // Writes the pieces at a place, one after another, and says where they end.
-pub fn put_all(text: &mut [u8], at: usize, parts: &[&[u8]]) -> usize
+pub(crate) fn put_all(text: &mut [u8], at: usize, parts: &[&[u8]]) -> usize
     requires { ⌜ at + length (pieces (now parts)) ≤ length (now text) ⌝ }
     ensures end { λ r. ⌜ r ≡ at + length (pieces (now (parts .entry))) ⌝ }
     ensures after { λ r. ⌜ now (text .exit) ≡ placed (now (text .entry)) at (pieces (now (parts .entry))) ⌝ }
@@ -54,7 +54,7 @@ pub fn put_all(text: &mut [u8], at: usize, parts: &[&[u8]]) -> usize
 }
 
 // The pieces at the front of `text`, and where they end; later bytes stay. Refused where they do not fit.
-pub fn write_all(parts: &[&[u8]], text: &mut [u8]) -> Result<usize, Fault>
+pub(crate) fn write_all(parts: &[&[u8]], text: &mut [u8]) -> Result<usize, Fault>
     ensures answers { λ r. ⌜ r ≡ fit (length (now (text .entry))) (length (pieces (now (parts .entry)))) ⌝ }
     ensures buffer { λ r. ⌜ now (text .exit) ≡ after r (pieces (now (parts .entry))) (now (text .entry)) ⌝ }
 {

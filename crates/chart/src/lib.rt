@@ -1,5 +1,7 @@
 // Charts: tasks whose states, moves and estimates are listed in tables. Tables that the check refuses make
 // the empty task.
+#![tactic(auto)]
+
 mod checks;
 mod index;
 mod shape;

@@ -1,4 +1,6 @@
 // All plans of one price, and the cheapest plans, by plain enumeration: what a search is compared with.
+#![tactic(auto)]
+
 ghost use Rattle.std.specs.Prelude.{◌≡◌, ℕ, List, ◌∷◌, ◌++◌, map, vec_items, MatchResult};
 ghost use Rattle.task.specs.Listing.{AllOf};
 ghost use Rattle.task.specs.Order.{Before};

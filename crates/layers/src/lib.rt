@@ -1,5 +1,7 @@
 // Layers over any task: one operator barred, or one operator required. A layer lends the task below it and is
 // itself a task, so layers can be piled.
+#![tactic(auto)]
+
 mod barred;
 mod plans;
 mod required;

@@ -1,5 +1,7 @@
 // A page of a parish register as a chart: its cheapest plans, what barring or requiring an operator changes,
 // and which share of the plans has each operator. A program to read when one begins with the library.
+#![tactic(auto)]
+
 use chart::{Arc, Chart, ChartTables};
 use enumerate::cheapest;
 use layers::{Barred, Required};

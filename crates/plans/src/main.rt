@@ -1,4 +1,6 @@
 // Reads a translator file on standard input and writes its cheapest plans; ends with status 1 after a refusal.
+#![tactic(auto)]
+
 use listing::list_plans;
 use std::alloc::Global;
 use std::io;

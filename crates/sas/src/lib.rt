@@ -1,5 +1,7 @@
 // SAS+ tasks: the tables that hold one, and the task that they make. Tables out of range make the
 // empty task, so that making a task never fails.
+#![tactic(auto)]
+
 mod moves;
 mod range;
 mod shape;

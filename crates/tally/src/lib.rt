@@ -1,5 +1,7 @@
 // Tallies: what is summed up over plans. A tally has a unit, the extension of a value by an operator
 // and the join of two values; there are two, the count of plans and the count with an operator watched.
+#![tactic(auto)]
+
 mod pairs;
 mod plans;
 mod shares;

@@ -1,4 +1,6 @@
 // The bytes that a program writes: a plan's text, and the line that says why a program stopped.
+#![tactic(auto)]
+
 mod digits;
 mod parts;
 mod plan;

@@ -1,4 +1,6 @@
 // Translator files: the reader of the format, version 3, into the tables of a SAS+ task.
+#![tactic(auto)]
+
 mod conditions;
 mod cursor;
 mod fields;

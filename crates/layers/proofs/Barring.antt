@@ -5,7 +5,7 @@ use Rattle.task.specs.Listing.{In}
 use Rattle.task.specs.Model.{Model, Lawful}
 use Rattle.task.specs.Plans.{follow}
 use Rattle.layers.specs.Theorems.{BarredPlans, BarredBeyond}
-use Rattle.layers.proofs.Following.{came_on, goes_on, used_below, same-price}
+use Rattle.layers.proofs.Following.{came_on, goes_on, used_below, same_price}
 use Rattle.layers.specs.Barred.{barred}
 
 -- a move that is left is a move below, of another operator
@@ -54,7 +54,7 @@ way_left m o s t (p ∷ os) e n =
 
 pub barred_plans : BarredPlans
 barred_plans m o os =
-    ((λ p. let w = way_below m o m.start p.0 os p.1 in ((p.0, w.0, p.2), w.1), λ p. (p.0.0, way_left m o m.start p.0.0 os p.0.1 p.1, p.0.2)), same-price (barred o m) m (λ p. refl) os)
+    ((λ p. let w = way_below m o m.start p.0 os p.1 in ((p.0, w.0, p.2), w.1), λ p. (p.0.0, way_left m o m.start p.0.0 os p.0.1 p.1, p.0.2)), same_price (barred o m) m (λ p. refl) os)
 
 pub barred_beyond : BarredBeyond
 barred_beyond m l o h os =

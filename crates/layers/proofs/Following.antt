@@ -21,6 +21,6 @@ used_below m l o (p ∷ os) s t e i =
     ⊎_elim (λ q. omega (arith, l.moves s p k.0 k.1, q)) (used_below m l o os k.0 t k.2) i
 
 -- where the costs are the same, so are the prices
-pub same-price : (m n : Model) → ((p : ℕ) → m.cost p ≡ n.cost p) → (os : List ℕ) → price m os ≡ price n os
-same-price m n h [] = refl
-same-price m n h (p ∷ os) = let e = same-price m n h os in let c = h p in omega arith
+pub same_price : (m n : Model) → ((p : ℕ) → m.cost p ≡ n.cost p) → (os : List ℕ) → price m os ≡ price n os
+same_price m n h [] = refl
+same_price m n h (p ∷ os) = let e = same_price m n h os in let c = h p in omega arith

@@ -10,7 +10,7 @@ use Rattle.task.proofs.Nothing.{nothing_lawful}
 use Rattle.layers.specs.Layers.{where_doubled, required_made}
 use Rattle.layers.specs.Required.{used_after, required}
 use Rattle.layers.specs.Theorems.{RequiredPlans, RequiredBeyond}
-use Rattle.layers.proofs.Following.{came_on, goes_on, used_below, same-price}
+use Rattle.layers.proofs.Following.{came_on, goes_on, used_below, same_price}
 
 -- a mark stays below 2
 pub mark_small : (o p u : ℕ) → u < 2 → used_after o p u < 2
@@ -142,7 +142,7 @@ way_marked m o s u t (p ∷ os) h e =
     (move_marked m o s u p k.0 h k.1) (way_marked m o k.0 (used_after o p u) t os (mark_small o p u h) k.2)
 
 pub required_plans : RequiredPlans
-required_plans m o os = ((used, marked), same-price (required o m) m (λ p. refl) os)
+required_plans m o os = ((used, marked), same_price (required o m) m (λ p. refl) os)
   where
     half : (2 * m.start) / 2 ≡ m.start
     half = omega arith

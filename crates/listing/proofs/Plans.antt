@@ -21,8 +21,8 @@ then_ok (Ok u) (Ok v) room long end e = go (ltb room long) e
 then_ok (Ok u) (Err f) room long end e = cc
 then_ok (Err f) s room long end e = cc
 
-pub answer-length : (m : Model) (n : Names) (steps : List ℕ) (room end : ℕ) → Ok end ≡ answer m n steps room → end ≡ length (plan_text m n steps)
-answer-length m n steps room end e = then_ok (check_count steps) (check_known (first_unknown m.operators 0 steps)) room (length (plan_text m n steps)) end e
+pub answer_length : (m : Model) (n : Names) (steps : List ℕ) (room end : ℕ) → Ok end ≡ answer m n steps room → end ≡ length (plan_text m n steps)
+answer_length m n steps room end e = then_ok (check_count steps) (check_known (first_unknown m.operators 0 steps)) room (length (plan_text m n steps)) end e
 
 module _ (m : Model) (n : Names) (steps before after part : List ℕ) (room : ℕ) (wide : room ≡ 65536) where
   pub added-ok : (end : ℕ) → Ok end ≡ answer m n steps room → after ≡ before ++ part → part ≡ plan_text m n steps → Added m n steps before after true

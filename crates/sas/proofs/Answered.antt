@@ -16,7 +16,7 @@ use Rattle.sas.specs.Scans.{led, Usable, Fitted}
 use Rattle.sas.specs.Meaning.{tables_of, meaning_of, naming_of, task_meaning, task_names}
 use Rattle.task.proofs.Members.{each-from-at}
 use Rattle.sas.proofs.Acts.{operators-count, actions-count, sizes-sized, goal-fits, used-operator, operator-there, action-there, operator-fits-there, action-fits}
-use Rattle.sas.proofs.Scanned.{fits_within, led-moved}
+use Rattle.sas.proofs.Scanned.{fits_within, led_moved}
 use Rattle.sas.proofs.Walks.{no_operator}
 use Rattle.sas.proofs.Makes.{made-in-range, made-spans}
 
@@ -74,7 +74,7 @@ module _ (s : SasTask) (m : s.made ≡ true) where
           let k : state < spanned (sizes_of (tables_of s)) = omega (arith, made-spans s m) in
           ap (λ v. led (sizes v) s.conditions.now state (nth os o)) e
           ∙ (ap (λ l. led (sizes_of (tables_of s)) s.conditions.now state (nth l o)) d
-          ∙ (led-moved (sizes_of (tables_of s)) s.conditions.now state k (used_operators (tables_of s)) o ∙ ap (λ b. (meaning_of b (tables_of s)).move state o) (sym m)))
+          ∙ (led_moved (sizes_of (tables_of s)) s.conditions.now state k (used_operators (tables_of s)) o ∙ ap (λ b. (meaning_of b (tables_of s)).move state o) (sym m)))
 
     -- the same of one operator that is there
     pub successor-made : (state : ℕ) → state < s.span → (o : ℕ) → o < s.used.operators → led (sizes vs) s.conditions.now state (Some (get_or s.operators.now o no_operator)) ≡ (task_meaning s).move state o

@@ -73,11 +73,11 @@ module _ (ns : List ℕ) (cs : List Condition) (os : List Operator) (s from : �
       (a.0, led-there cs os f a.1 ds d ns s act ∙ ap Some (sym same), λ o h l. led_nowhere ns cs s (nth os o) (ap (λ v. acts cs v (nth os o)) (sym e) ∙ a.3 o h l))
 
 -- in a state, where an operator leads is where its action does
-pub led-moved : (ns : List ℕ) (cs : List Condition) (s : ℕ) → s < spanned ns → (os : List Operator) (o : ℕ) → led ns cs s (nth os o) ≡ moved ns (nth (map (action_of cs) os) o) s
-led-moved ns cs s h [] o = refl
-led-moved ns cs s h (x ∷ os) zero =
+pub led_moved : (ns : List ℕ) (cs : List Condition) (s : ℕ) → s < spanned ns → (os : List Operator) (o : ℕ) → led ns cs s (nth os o) ≡ moved ns (nth (map (action_of cs) os) o) s
+led_moved ns cs s h [] o = refl
+led_moved ns cs s h (x ∷ os) zero =
     ap (λ b. cond (b && applies (part cs x.first x.count) (values ns s)) (Some (numbered ns (changed (part cs x.first x.count) (values ns s)))) None) (sym (lt-ltb s (spanned ns) h))
-led-moved ns cs s h (x ∷ os) (suc o) = led-moved ns cs s h os o
+led_moved ns cs s h (x ∷ os) (suc o) = led_moved ns cs s h os o
 
 pub first_moves : (m : Model) (s from : ℕ) (lead : ℕ → Option ℕ) → ((o : ℕ) → lead o ≡ m.move s o) → (r : Option (ℕ × ℕ)) → FirstLed lead from r → FirstMove m s from r
 first_moves m s from lead e None f = λ o h. sym (e o) ∙ f o h

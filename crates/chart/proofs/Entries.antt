@@ -67,50 +67,50 @@ module _ (arcs : List Arc) (es : List Entry) (x : Indexed arcs es) where
 
   module _ (s from r : ℕ) (b : Bound es s from r) where
     -- an entry of the state and an operator numbered `from` or more stands at the bound or later
-    not-below : (k o : ℕ) → (get_or es k no_entry).from ≡ s → (get_or es k no_entry).operator ≡ o → from ≤ o → r ≤ k
-    not-below k o e f l = ⊎_elim (λ m. absurd (let t = b.below k m in grind (arith, nat_tests))) (λ m. m) (order k r)
+    not_below : (k o : ℕ) → (get_or es k no_entry).from ≡ s → (get_or es k no_entry).operator ≡ o → from ≤ o → r ≤ k
+    not_below k o e f l = ⊎_elim (λ m. absurd (let t = b.below k m in grind (arith, nat_tests))) (λ m. m) (order k r)
 
-    pub none-at-end : r ≡ length es → (o : ℕ) → from ≤ o → target arcs s o ≡ None
-    none-at-end h o l = no_target s o (λ k m e f. omega (arith, not-below k o e f l))
+    pub none_at_end : r ≡ length es → (o : ℕ) → from ≤ o → target arcs s o ≡ None
+    none_at_end h o l = no_target s o (λ k m e f. omega (arith, not_below k o e f l))
 
     pub none_elsewhere : r < length es → ((get_or arcs (get_or es r no_entry).arc no_arc).from ≡ s → ⊥) → (o : ℕ) → from ≤ o → target arcs s o ≡ None
     none_elsewhere h n o l =
         no_target s o (λ k m e f.
-        let up = not-below k o e f l in
+        let up = not_below k o e f l in
         let i = x.ordered r k up m in
         let a = b.above r (omega arith) h in
         let same : (get_or es r no_entry).from ≡ s = grind (arith, nat_tests) in
         n (sym (facts r h).1 ∙ same))
 
-    pub next-found : r < length es → (get_or arcs (get_or es r no_entry).arc no_arc).from ≡ s → NextArc arcs s from (Some (get_or es r no_entry).arc)
-    next-found h e =
+    pub next_found : r < length es → (get_or arcs (get_or es r no_entry).arc no_arc).from ≡ s → NextArc arcs s from (Some (get_or es r no_entry).arc)
+    next_found h e =
         ((facts r h).0, e, low, (λ k l. no_lead s (get_or arcs (get_or es r no_entry).arc no_arc).operator k (omega (arith, (facts r h).0)) (λ i m ea ef eo. earlier k l i m ea ef eo)), (λ o l m. no_target s o (λ k n ef eo. between o l m k n ef eo)))
       where
-        at-state : (get_or es r no_entry).from ≡ s
-        at-state = (facts r h).1 ∙ e
+        at_state : (get_or es r no_entry).from ≡ s
+        at_state = (facts r h).1 ∙ e
 
         low : from ≤ (get_or arcs (get_or es r no_entry).arc no_arc).operator
-        low = let a = b.above r (omega arith) h in let q = at-state in let o = (facts r h).2 in grind (arith, nat_tests)
+        low = let a = b.above r (omega arith) h in let q = at_state in let o = (facts r h).2 in grind (arith, nat_tests)
 
         earlier : (k : ℕ) → k < (get_or es r no_entry).arc → (i : ℕ) → i < length es → (get_or es i no_entry).arc ≡ k → (get_or es i no_entry).from ≡ s → (get_or es i no_entry).operator ≡ (get_or arcs (get_or es r no_entry).arc no_arc).operator → ⊥
         earlier k l i m ea ef eo =
-            let up = not-below i _ ef eo low in
+            let up = not_below i _ ef eo low in
             let i' = x.ordered r i up m in
-            let q = at-state in
+            let q = at_state in
             let o = (facts r h).2 in
             grind (arith, nat_tests)
 
         between : (o : ℕ) → from ≤ o → o < (get_or arcs (get_or es r no_entry).arc no_arc).operator → (k : ℕ) → k < length es → (get_or es k no_entry).from ≡ s → (get_or es k no_entry).operator ≡ o → ⊥
         between o l m k n ef eo =
-            let up = not-below k o ef eo l in
+            let up = not_below k o ef eo l in
             let i = x.ordered r k up n in
-            let q = at-state in
+            let q = at_state in
             let p = (facts r h).2 in
             grind (arith, nat_tests)
 
 module _ (es : List Entry) (u : Ordered es) (s o m : ℕ) where
-  pub all-before : m < length es → before (get_or es m no_entry) s o ≡ true → (k : ℕ) → k < m + 1 → before (get_or es k no_entry) s o ≡ true
-  all-before h e k l = before_earlier (get_or es k no_entry) (get_or es m no_entry) s o (u k m (omega arith) h) e
+  pub all_before : m < length es → before (get_or es m no_entry) s o ≡ true → (k : ℕ) → k < m + 1 → before (get_or es k no_entry) s o ≡ true
+  all_before h e k l = before_earlier (get_or es k no_entry) (get_or es m no_entry) s o (u k m (omega arith) h) e
 
   pub none_before : before (get_or es m no_entry) s o ≡ false → (k : ℕ) → m ≤ k → k < length es → before (get_or es k no_entry) s o ≡ false
   none_before e k l h = before_later (get_or es m no_entry) (get_or es k no_entry) s o (u m k l h) e

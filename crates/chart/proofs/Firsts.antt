@@ -7,14 +7,14 @@ use Rattle.task.specs.declared.faults.Layer.TheVariants.{Chart}
 use Rattle.chart.specs.Faults.{answered, fault_at, first_failing, or_else}
 
 module _ (p : ℕ → Bool) where
-  pub none-fails : (n : ℕ) → ((k : ℕ) → k < n → p k ≡ true) → None ≡ first_failing p n
-  none-fails zero h = refl
-  none-fails (suc n) h =
-      ap (λ b. cond b None (Some n)) (sym (h n (omega arith))) ∙ ap (λ x. or_else x (cond (p n) None (Some n))) (none-fails n (λ k l. h k (omega arith)))
+  pub none_fails : (n : ℕ) → ((k : ℕ) → k < n → p k ≡ true) → None ≡ first_failing p n
+  none_fails zero h = refl
+  none_fails (suc n) h =
+      ap (λ b. cond b None (Some n)) (sym (h n (omega arith))) ∙ ap (λ x. or_else x (cond (p n) None (Some n))) (none_fails n (λ k l. h k (omega arith)))
 
-  pub first-fails : (n i : ℕ) → i < n → ((k : ℕ) → k < i → p k ≡ true) → p i ≡ false → Some i ≡ first_failing p n
-  first-fails zero i l h e = absurd (omega arith)
-  first-fails (suc n) i l h e = ⊎_elim (λ m. early (first-fails n i m h e)) last (order i n)
+  pub first_fails : (n i : ℕ) → i < n → ((k : ℕ) → k < i → p k ≡ true) → p i ≡ false → Some i ≡ first_failing p n
+  first_fails zero i l h e = absurd (omega arith)
+  first_fails (suc n) i l h e = ⊎_elim (λ m. early (first_fails n i m h e)) last (order i n)
     where
       early : Some i ≡ first_failing p n → Some i ≡ first_failing p (suc n)
       early f = ap (λ x. or_else x (cond (p n) None (Some n))) f
@@ -24,7 +24,7 @@ module _ (p : ℕ → Bool) where
           let same : i ≡ n = omega arith in
           ap Some same
           ∙ (ap (λ b. cond b None (Some n)) (sym e ∙ ap p same)
-          ∙ ap (λ x. or_else x (cond (p n) None (Some n))) (none-fails n (λ k l. h k (omega arith))))
+          ∙ ap (λ x. or_else x (cond (p n) None (Some n))) (none_fails n (λ k l. h k (omega arith))))
 
   -- where none fails, each passes
   pub all_pass : (n : ℕ) → first_failing p n ≡ None → (k : ℕ) → k < n → p k ≡ true
@@ -37,8 +37,8 @@ module _ (p : ℕ → Bool) where
       go rec None true ex eb = ⊎_elim (rec ex) (λ m. let same : k ≡ n = omega arith in ap p same ∙ eb) (order k n)
 
   -- what a loop over the numbers below n answers
-  pub answer-none : (kind : Kind) (n : ℕ) → ((k : ℕ) → k < n → p k ≡ true) → Ok tt ≡ answered (fault_at kind (first_failing p n))
-  answer-none kind n h = ap (λ x. answered (fault_at kind x)) (none-fails n h)
+  pub answer_none : (kind : Kind) (n : ℕ) → ((k : ℕ) → k < n → p k ≡ true) → Ok tt ≡ answered (fault_at kind (first_failing p n))
+  answer_none kind n h = ap (λ x. answered (fault_at kind x)) (none_fails n h)
 
-  pub answer-first : (kind : Kind) (n i : ℕ) (f : Fault) → i < n → ((k : ℕ) → k < i → p k ≡ true) → p i ≡ false → f ≡ record { kind = kind; place = i; layer = Chart } → Err f ≡ answered (fault_at kind (first_failing p n))
-  answer-first kind n i f l h e g = ap Err g ∙ ap (λ x. answered (fault_at kind x)) (first-fails n i l h e)
+  pub answer_first : (kind : Kind) (n i : ℕ) (f : Fault) → i < n → ((k : ℕ) → k < i → p k ≡ true) → p i ≡ false → f ≡ record { kind = kind; place = i; layer = Chart } → Err f ≡ answered (fault_at kind (first_failing p n))
+  answer_first kind n i f l h e g = ap Err g ∙ ap (λ x. answered (fault_at kind x)) (first_fails n i l h e)

@@ -6,23 +6,23 @@ use Rattle.std.proofs.lemmas.Bool.Decides.{nat_tests}
 use Rattle.chart.specs.Tables.{hope}
 
 module _ (es : List ℕ) (s : ℕ) where
-  pub hope-past : length es ≤ s → None ≡ hope (get_or es s 4294967295)
-  hope-past h = sym (ap hope (get_or_past es s 4294967295 h))
+  pub hope_past : length es ≤ s → None ≡ hope (get_or es s 4294967295)
+  hope_past h = sym (ap hope (get_or_past es s 4294967295 h))
 
-  pub hope-none : s < length es → 4294967295 ≤ get_or es s 0 → None ≡ hope (get_or es s 4294967295)
-  hope-none h e = none (get_or es s 0) e ∙ ap hope (sym (get_or_default es s 4294967295 0 h))
+  pub hope_none : s < length es → 4294967295 ≤ get_or es s 0 → None ≡ hope (get_or es s 4294967295)
+  hope_none h e = none (get_or es s 0) e ∙ ap hope (sym (get_or_default es s 4294967295 0 h))
     where
       none : (e : ℕ) → 4294967295 ≤ e → None ≡ hope e
       none e n = grind (arith, nat_tests)
 
-  pub hope-some : s < length es → get_or es s 0 < 4294967295 → Some (get_or es s 0) ≡ hope (get_or es s 4294967295)
-  hope-some h n = given (get_or es s 0) n ∙ ap hope (sym (get_or_default es s 4294967295 0 h))
+  pub hope_some : s < length es → get_or es s 0 < 4294967295 → Some (get_or es s 0) ≡ hope (get_or es s 4294967295)
+  hope_some h n = given (get_or es s 0) n ∙ ap hope (sym (get_or_default es s 4294967295 0 h))
     where
       given : (e : ℕ) → e < 4294967295 → Some e ≡ hope e
       given e n = grind (arith, nat_tests)
 
-  pub hope-within : (h : ℕ) → hope (get_or es s 4294967295) ≡ Some h → (s < length es) × (h < 4294967295)
-  hope-within h e = (⊎_elim (λ l. l) (λ l. absurd (past (hope-past l ∙ e))) (order s (length es)), small (get_or es s 4294967295) e)
+  pub hope_within : (h : ℕ) → hope (get_or es s 4294967295) ≡ Some h → (s < length es) × (h < 4294967295)
+  hope_within h e = (⊎_elim (λ l. l) (λ l. absurd (past (hope_past l ∙ e))) (order s (length es)), small (get_or es s 4294967295) e)
     where
       past : None ≡ Some h → ⊥
       past e = grind arith

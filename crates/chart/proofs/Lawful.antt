@@ -13,8 +13,8 @@ use Rattle.chart.specs.Faults.{or_else, fault_at, fault_unless, first_failing, l
 use Rattle.chart.specs.Tables.{Tables, hope, estimate_of, charted, chart_names, name_of, name_start}
 use Rattle.chart.proofs.Entries.{leads_both}
 use Rattle.chart.proofs.Firsts.{all_pass}
-use Rattle.chart.proofs.Hopes.{hope-within}
-use Rattle.chart.proofs.Targets.{some-leads}
+use Rattle.chart.proofs.Hopes.{hope_within}
+use Rattle.chart.proofs.Targets.{some_leads}
 
 neither : {A : Type 0} (x y : Option A) → or_else x y ≡ None → (x ≡ None) × (y ≡ None)
 neither None y e = (refl, e)
@@ -91,25 +91,25 @@ goal_known : (b : Bool) (e : ℕ) → cond b (eqb e 0) true ≡ true → b ≡ t
 goal_known b e h k = grind (arith, nat_tests)
 
 module _ (t : Tables) (p : Passed t) where
-  moves-within : (s o u : ℕ) → (charted t).move s o ≡ Some u → (s < length t.goals) × (o < length t.costs) × (u < length t.goals)
-  moves-within s o u e =
-      let w = some-leads s o t.arcs u e in
+  moves_within : (s o u : ℕ) → (charted t).move s o ≡ Some u → (s < length t.goals) × (o < length t.costs) × (u < length t.goals)
+  moves_within s o u e =
+      let w = some_leads s o t.arcs u e in
       let b = leads_both (get_or t.arcs w.0 no_arc) s o w.2 in
       let k = arc_known _ _ (get_or t.arcs w.0 no_arc) (p.arcs w.0 w.1) in
       (omega (arith, k.0, b.0), omega (arith, k.1, b.1), omega (arith, k.2, w.3))
 
-  goal-within : (s : ℕ) → get_or t.goals s false ≡ true → s < length t.goals
-  goal-within s e = ⊎_elim (λ l. l) (λ l. absurd (both_ways (get_or t.goals s false) (get_or_past t.goals s false l) e)) (order s (length t.goals))
+  goal_within : (s : ℕ) → get_or t.goals s false ≡ true → s < length t.goals
+  goal_within s e = ⊎_elim (λ l. l) (λ l. absurd (both_ways (get_or t.goals s false) (get_or_past t.goals s false l) e)) (order s (length t.goals))
 
-  goal-estimate : (s : ℕ) → get_or t.goals s false ≡ true → estimate_of t s ≡ Some 0
-  goal-estimate s e =
-      let l = goal-within s e in
+  goal_estimate : (s : ℕ) → get_or t.goals s false ≡ true → estimate_of t s ≡ Some 0
+  goal_estimate s e =
+      let l = goal_within s e in
       let zero = goal_known (get_or t.goals s false) (get_or t.estimates s 0) (p.goals s l) e in
       ap hope (get_or_default t.estimates s 4294967295 0 (omega (arith, (lengths_known t p.lengths).estimates)) ∙ zero)
 
-  consistent-arc : (s o u : ℕ) → (charted t).move s o ≡ Some u → AtMost (estimate_of t s) (get_or t.costs o 0) (estimate_of t u)
-  consistent-arc s o u e =
-      let w = some-leads s o t.arcs u e in
+  consistent_arc : (s o u : ℕ) → (charted t).move s o ≡ Some u → AtMost (estimate_of t s) (get_or t.costs o 0) (estimate_of t u)
+  consistent_arc s o u e =
+      let w = some_leads s o t.arcs u e in
       let a = get_or t.arcs w.0 no_arc in
       let b = leads_both a s o w.2 in
       at_most_holds (estimate_of t s) (get_or t.costs o 0) (estimate_of t u)
@@ -117,8 +117,8 @@ module _ (t : Tables) (p : Passed t) where
       ∙ (ap (λ n. at_most (estimate_of t a.from) (get_or t.costs n 0) (estimate_of t u)) (sym b.1)
       ∙ (ap (λ n. at_most (estimate_of t a.from) (get_or t.costs a.operator 0) (estimate_of t n)) (sym w.3) ∙ p.laws w.0 w.1)))
 
-  pub charted-lawful : Lawful (charted t)
-  charted-lawful =
+  pub charted_lawful : Lawful (charted t)
+  charted_lawful =
       let n = lengths_known t p.lengths in
       record {
         few = omega (arith, n.operators);
@@ -126,18 +126,18 @@ module _ (t : Tables) (p : Passed t) where
         unpriced = λ o h. get_or_past t.costs o 0 h;
         wide = (n.states.0, omega (arith, n.states.1));
         starts = p.start;
-        moves = moves-within;
-        inside = goal-within;
-        estimates = λ s h e. let w = hope-within t.estimates s h e in (omega (arith, w.0, n.estimates), omega (arith, w.1));
-        aware = goal-estimate;
-        consistent = consistent-arc;
+        moves = moves_within;
+        inside = goal_within;
+        estimates = λ s h e. let w = hope_within t.estimates s h e in (omega (arith, w.0, n.estimates), omega (arith, w.1));
+        aware = goal_estimate;
+        consistent = consistent_arc;
       }
 
-  pub charted-nameless : (o : ℕ) → length t.costs ≤ o → (chart_names t).name o ≡ []
-  charted-nameless o h =
+  pub charted_nameless : (o : ℕ) → length t.costs ≤ o → (chart_names t).name o ≡ []
+  charted_nameless o h =
       let past = get_or_past t.ends o 0 (omega (arith, (lengths_known t p.lengths).ends)) in
       ap (λ n. take (n - name_start t.ends o) (drop (name_start t.ends o) t.text)) past
-      ∙ ap (λ n. take n (drop (name_start t.ends o) t.text)) (zero-less (name_start t.ends o))
+      ∙ ap (λ n. take n (drop (name_start t.ends o) t.text)) (zero_less (name_start t.ends o))
     where
-      zero-less : (n : ℕ) → 0 - n ≡ 0
-      zero-less n = omega arith
+      zero_less : (n : ℕ) → 0 - n ≡ 0
+      zero_less n = omega arith

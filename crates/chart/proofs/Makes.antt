@@ -6,18 +6,18 @@ use Rattle.chart.specs.declared.shape.Chart.{Chart}
 use Rattle.chart.specs.Faults.{chart_fault}
 use Rattle.chart.specs.Meaning.{meaning_of, naming_of, task_meaning, task_names, Made}
 use Rattle.chart.specs.Tables.{contents}
-use Rattle.chart.proofs.Lawful.{Passed, no_fault_passed, charted-lawful, charted-nameless}
+use Rattle.chart.proofs.Lawful.{Passed, no_fault_passed, charted_lawful, charted_nameless}
 
 none_some : {A : Type 0} (x : Option A) → not (is_some x) ≡ true → x ≡ None
 none_some None e = refl
 none_some (Some a) e = absurd (grind arith)
 
 module _ (c : Chart) where
-  pub made-passed : c.made ≡ true → Passed (contents c.tables)
-  made-passed m = no_fault_passed (contents c.tables) (none_some (chart_fault (contents c.tables)) (sym c.checked ∙ m))
+  pub made_passed : c.made ≡ true → Passed (contents c.tables)
+  made_passed m = no_fault_passed (contents c.tables) (none_some (chart_fault (contents c.tables)) (sym c.checked ∙ m))
 
-  pub made-of-tables : Made (contents c.tables) c
-  made-of-tables =
+  pub made_of_tables : Made (contents c.tables) c
+  made_of_tables =
       record {
         held = λ e. both (c.checked ∙ ap (λ x. not (is_some x)) e);
         refused = λ f e. both (c.checked ∙ ap (λ x. not (is_some x)) e);
@@ -26,16 +26,16 @@ module _ (c : Chart) where
       both : {b : Bool} → c.made ≡ b → (task_meaning c ≡ meaning_of b (contents c.tables)) × (task_names c ≡ naming_of b (contents c.tables))
       both e = (ap (λ b. meaning_of b (contents c.tables)) e, ap (λ b. naming_of b (contents c.tables)) e)
 
-  pub task-lawful : Lawful (task_meaning c)
-  task-lawful = go c.made refl
+  pub task_lawful : Lawful (task_meaning c)
+  task_lawful = go c.made refl
     where
       go : (b : Bool) → c.made ≡ b → Lawful (meaning_of b (contents c.tables))
-      go true e = charted-lawful (contents c.tables) (made-passed e)
+      go true e = charted_lawful (contents c.tables) (made_passed e)
       go false e = nothing_lawful
 
-  pub task-nameless : (o : ℕ) → (task_meaning c).operators ≤ o → (task_names c).name o ≡ []
-  task-nameless o h = go c.made refl h
+  pub task_nameless : (o : ℕ) → (task_meaning c).operators ≤ o → (task_names c).name o ≡ []
+  task_nameless o h = go c.made refl h
     where
       go : (b : Bool) → c.made ≡ b → (meaning_of b (contents c.tables)).operators ≤ o → (naming_of b (contents c.tables)).name o ≡ []
-      go true e h = charted-nameless (contents c.tables) (made-passed e) o h
+      go true e h = charted_nameless (contents c.tables) (made_passed e) o h
       go false e h = refl

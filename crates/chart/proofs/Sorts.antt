@@ -28,18 +28,18 @@ not_after : (e f : Entry) → is_lt (by_key.cmp (key f) (key e)) ≡ false → i
 not_after e f h = grind (arith, nat_tests)
 
 module _ (arcs : List Arc) (us es : List Entry) (l : Listed arcs (length arcs) us) (s : IsPermutation us es) where
-  of-its-arc : (k : ℕ) → k < length arcs → of_arc arcs (entry_of arcs k) ≡ true
-  of-its-arc k h = grind (arith, nat_tests)
+  of_its_arc : (k : ℕ) → k < length arcs → of_arc arcs (entry_of arcs k) ≡ true
+  of_its_arc k h = grind (arith, nat_tests)
 
-  pub sound-sorted : Sound arcs es
-  sound-sorted k h =
+  pub sound_sorted : Sound arcs es
+  sound_sorted k h =
       All-get_or (λ e. of_arc arcs e ≡ true) es k no_entry h
-      (all_shuffled (λ e. of_arc arcs e ≡ true) us es s (All-from_get_or (λ e. of_arc arcs e ≡ true) us no_entry (λ i m. let n : i < length arcs = omega (arith, l.count) in subst (λ e. of_arc arcs e ≡ true) (sym (l.each i n)) (of-its-arc i n))))
+      (all_shuffled (λ e. of_arc arcs e ≡ true) us es s (All-from_get_or (λ e. of_arc arcs e ≡ true) us no_entry (λ i m. let n : i < length arcs = omega (arith, l.count) in subst (λ e. of_arc arcs e ≡ true) (sym (l.each i n)) (of_its_arc i n))))
 
-  pub whole-sorted : Whole arcs es
-  whole-sorted k h =
+  pub whole_sorted : Whole arcs es
+  whole_sorted k h =
       let there = has_shuffled us es (get_or us k no_entry) s (has_get_or us k no_entry (omega (arith, l.count))) in
       some_entered es k there.0 there.1 (ap (λ e. e.arc) (there.2 no_entry ∙ l.each k h))
 
-  pub ordered-sorted : (n : ℕ) → n ≡ length es → IsSortedWithin (λ x y. is_lt (by_key.cmp (key x) (key y))) es 0 n → Ordered es
-  ordered-sorted n e up i j h m = not_after (get_or es i no_entry) (get_or es j no_entry) (sorted_far (λ x y. is_lt (by_key.cmp (key x) (key y))) (ranks_by by_key key) es (λ k d a b. up k d a (omega arith)) i j no_entry h m)
+  pub ordered_sorted : (n : ℕ) → n ≡ length es → IsSortedWithin (λ x y. is_lt (by_key.cmp (key x) (key y))) es 0 n → Ordered es
+  ordered_sorted n e up i j h m = not_after (get_or es i no_entry) (get_or es j no_entry) (sorted_far (λ x y. is_lt (by_key.cmp (key x) (key y))) (ranks_by by_key key) es (λ k d a b. up k d a (omega arith)) i j no_entry h m)

@@ -17,9 +17,9 @@ module _ (s o : ℕ) where
       ap (λ b. cond b (Some a.to) (target arcs s o)) (h 0 (omega arith)) ∙ target_first arcs j (omega arith) e (λ k m. h (suc k) (omega arith))
 
   -- where a target is none, no arc leads
-  pub none-leads : (arcs : List Arc) → target arcs s o ≡ None → (k : ℕ) → k < length arcs → leads (get_or arcs k no_arc) s o ≡ false
-  none-leads [] e k l = absurd (omega arith)
-  none-leads (a ∷ arcs) e k l = go (none-leads arcs) (leads a s o) refl k l
+  pub none_leads : (arcs : List Arc) → target arcs s o ≡ None → (k : ℕ) → k < length arcs → leads (get_or arcs k no_arc) s o ≡ false
+  none_leads [] e k l = absurd (omega arith)
+  none_leads (a ∷ arcs) e k l = go (none_leads arcs) (leads a s o) refl k l
     where
       go : (target arcs s o ≡ None → (k : ℕ) → k < length arcs → leads (get_or arcs k no_arc) s o ≡ false) → (b : Bool) → leads a s o ≡ b → (k : ℕ) → k < length (a ∷ arcs) → leads (get_or (a ∷ arcs) k no_arc) s o ≡ false
       go rec true f k l = let bad : Some a.to ≡ None = ap (λ b. cond b (Some a.to) (target arcs s o)) (sym f) ∙ e in absurd (grind arith)
@@ -30,9 +30,9 @@ module _ (s o : ℕ) where
   abbrev pub Led : List Arc → ℕ → Type 0
   Led arcs t = (k : ℕ) × (k < length arcs) × (leads (get_or arcs k no_arc) s o ≡ true) × ((get_or arcs k no_arc).to ≡ t)
 
-  pub some-leads : (arcs : List Arc) (t : ℕ) → target arcs s o ≡ Some t → Led arcs t
-  some-leads [] t e = absurd (grind arith)
-  some-leads (a ∷ arcs) t e = go (some-leads arcs t) (leads a s o) refl
+  pub some_leads : (arcs : List Arc) (t : ℕ) → target arcs s o ≡ Some t → Led arcs t
+  some_leads [] t e = absurd (grind arith)
+  some_leads (a ∷ arcs) t e = go (some_leads arcs t) (leads a s o) refl
     where
       go : (target arcs s o ≡ Some t → Led arcs t) → (b : Bool) → leads a s o ≡ b → Led (a ∷ arcs) t
       go rec true f = let same : Some a.to ≡ Some t = ap (λ b. cond b (Some a.to) (target arcs s o)) (sym f) ∙ e in (0, omega arith, f, (cc))

@@ -5,8 +5,8 @@ use Rattle.std.proofs.lemmas.List.{get_or-take, get_or-map, length-take, length-
 use Rattle.enumerate.specs.Lists.{plans_of}
 
 module _ (v : Vec (Vec ℕ Global) Global) where
-  pub held-count : length (take 100 (plans_of v)) ≡ min 100 (vec_len v)
-  held-count = length-take 100 (plans_of v) ∙ ap (min 100) (length-map (vec_items v) vec_items ∙ sym v.ok.0)
+  pub held_count : length (take 100 (plans_of v)) ≡ min 100 (vec_len v)
+  held_count = length-take 100 (plans_of v) ∙ ap (min 100) (length-map (vec_items v) vec_items ∙ sym v.ok.0)
 
   pub held_at : (i : ℕ) (x : Vec ℕ Global) → x ≡ get_or (vec_items v) i x → i < min 100 (vec_len v) → vec_items x ≡ get_or (take 100 (plans_of v)) i []
   held_at i x is h =

@@ -25,16 +25,16 @@ pub answer_length : (m : Model) (n : Names) (steps : List ℕ) (room end : ℕ) 
 answer_length m n steps room end e = then_ok (check_count steps) (check_known (first_unknown m.operators 0 steps)) room (length (plan_text m n steps)) end e
 
 module _ (m : Model) (n : Names) (steps before after part : List ℕ) (room : ℕ) (wide : room ≡ 65536) where
-  pub added-ok : (end : ℕ) → Ok end ≡ answer m n steps room → after ≡ before ++ part → part ≡ plan_text m n steps → Added m n steps before after true
-  added-ok end e a p =
+  pub added_ok : (end : ℕ) → Ok end ≡ answer m n steps room → after ≡ before ++ part → part ≡ plan_text m n steps → Added m n steps before after true
+  added_ok end e a p =
       let is : answer m n steps 65536 ≡ Ok end = ap (answer m n steps) (sym wide) ∙ sym e in
       record {
         text = a ∙ ap (λ t. before ++ t) (p ∙ ap (λ r. (added r (plan_text m n steps)).0) (sym is));
         goes_on = ap (λ r. (added r (plan_text m n steps)).1) (sym is);
       }
 
-  pub added-err : (f : Fault) → Err f ≡ answer m n steps room → after ≡ before ++ part → part ≡ refusal_line f → Added m n steps before after false
-  added-err f e a p =
+  pub added_err : (f : Fault) → Err f ≡ answer m n steps room → after ≡ before ++ part → part ≡ refusal_line f → Added m n steps before after false
+  added_err f e a p =
       let is : answer m n steps 65536 ≡ Err f = ap (answer m n steps) (sym wide) ∙ sym e in
       record {
         text = a ∙ ap (λ t. before ++ t) (p ∙ ap (λ r. (added r (plan_text m n steps)).0) (sym is));
@@ -70,5 +70,5 @@ module _ (m : Model) (n : Names) where
         go (Ok end) t g = absurd (true≢false (sym g))
         go (Err f) t g = ap (λ l. (l, true)) (sym t)
 
-  pub all-written : {qs : List (List ℕ)} {i : ℕ} {text : List ℕ} → Sofar qs i text → length qs ≤ i → (text, false) ≡ texts m n qs
-  all-written {qs} {i} {text} so h = sym (so.on ∙ ap (λ l. behind text (texts m n l)) (drop_all i qs h) ∙ ap (λ l. (l, false)) (append-nil text))
+  pub all_written : {qs : List (List ℕ)} {i : ℕ} {text : List ℕ} → Sofar qs i text → length qs ≤ i → (text, false) ≡ texts m n qs
+  all_written {qs} {i} {text} so h = sym (so.on ∙ ap (λ l. behind text (texts m n l)) (drop_all i qs h) ∙ ap (λ l. (l, false)) (append-nil text))

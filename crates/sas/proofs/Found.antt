@@ -58,21 +58,21 @@ product_of_sizes : (ns : List ℕ) → product 1 ns ≡ cond (each size_fits ns 
 product_of_sizes ns = ap (λ p. cond (each size_fits ns && leb p (2 ^ 60)) (Some p) None) (one-mul (spanned ns))
 
 module _ (t : Tables) where
-  range-is : range t ≡ cond (tables_count t) (fitting t (cond (each size_fits (sizes_of t) && leb (spanned (sizes_of t)) (2 ^ 60)) (Some (spanned (sizes_of t))) None)) None
-  range-is = ap (λ p. cond (tables_count t) (fitting t p) None) (product_of_sizes (sizes_of t))
+  range_is : range t ≡ cond (tables_count t) (fitting t (cond (each size_fits (sizes_of t) && leb (spanned (sizes_of t)) (2 ^ 60)) (Some (spanned (sizes_of t))) None)) None
+  range_is = ap (λ p. cond (tables_count t) (fitting t p) None) (product_of_sizes (sizes_of t))
 
-  pub found-in-range : InRange t → range t ≡ Some (spanned (sizes_of t))
-  found-in-range r =
+  pub found_in_range : InRange t → range t ≡ Some (spanned (sizes_of t))
+  found_in_range r =
       let counts = (decides_counts t).1 ((r.variables.0, (r.variables.1, r.variables.2)), ((r.operators.0, r.operators.1), (r.conditions.0, r.conditions.1))) in
       let sizes = (decides_sizes t).1 (r.sizes, r.span) in
       let fit = (decides_fit t (spanned (sizes_of t))).1 (r.start, (r.each_condition, r.each_operator)) in
-      range-is
+      range_is
       ∙ (cond-true (tables_count t) _ None counts
       ∙ (ap (fitting t) (cond-true (each size_fits (sizes_of t) && leb (spanned (sizes_of t)) (2 ^ 60)) (Some (spanned (sizes_of t))) None sizes)
       ∙ cond-true (tables_fit t (spanned (sizes_of t))) (Some (spanned (sizes_of t))) None fit))
 
-  pub in-range-found : (s : ℕ) → range t ≡ Some s → InRange t × (s ≡ spanned (sizes_of t))
-  in-range-found s e = counted (tables_count t) refl (sym range-is ∙ e)
+  pub in_range_found : (s : ℕ) → range t ≡ Some s → InRange t × (s ≡ spanned (sizes_of t))
+  in_range_found s e = counted (tables_count t) refl (sym range_is ∙ e)
     where
       fitted : (b : Bool) → tables_fit t (spanned (sizes_of t)) ≡ b → Counts t → Sizes t → cond b (Some (spanned (sizes_of t))) None ≡ Some s → InRange t × (s ≡ spanned (sizes_of t))
       fitted false f c z e = absurd (grind arith)

@@ -7,48 +7,48 @@ use Rattle.sas.specs.States.{spanned}
 use Rattle.sas.specs.Tables.{Tables, InRange, sizes_of}
 use Rattle.sas.specs.Checks.{range}
 use Rattle.sas.specs.Meaning.{tables_of, meaning_of, naming_of, task_meaning, task_names, Made}
-use Rattle.sas.proofs.Acts.{actions-count}
-use Rattle.sas.proofs.Found.{found-in-range, in-range-found}
-use Rattle.sas.proofs.Lawful.{meant-lawful, meant-nameless}
+use Rattle.sas.proofs.Acts.{actions_count}
+use Rattle.sas.proofs.Found.{found_in_range, in_range_found}
+use Rattle.sas.proofs.Lawful.{meant_lawful, meant_nameless}
 
 module _ (t : Tables) where
-  found-when : (x : Option ℕ) → range t ≡ x → is_some x ≡ true → InRange t × (unwrap_or x 1 ≡ spanned (sizes_of t))
-  found-when None e h = absurd (grind arith)
-  found-when (Some s) e h = in-range-found t s e
+  found_when : (x : Option ℕ) → range t ≡ x → is_some x ≡ true → InRange t × (unwrap_or x 1 ≡ spanned (sizes_of t))
+  found_when None e h = absurd (grind arith)
+  found_when (Some s) e h = in_range_found t s e
 
   not_found : (x : Option ℕ) → range t ≡ x → (InRange t → ⊥) → is_some x ≡ false
   not_found None e h = refl
-  not_found (Some s) e h = absurd (h (in-range-found t s e).0)
+  not_found (Some s) e h = absurd (h (in_range_found t s e).0)
 
 module _ (s : SasTask) where
-  pub made-in-range : s.made ≡ true → InRange (tables_of s)
-  made-in-range m = (found-when (tables_of s) (range (tables_of s)) refl (sym s.checked ∙ m)).0
+  pub made_in_range : s.made ≡ true → InRange (tables_of s)
+  made_in_range m = (found_when (tables_of s) (range (tables_of s)) refl (sym s.checked ∙ m)).0
 
-  pub made-spans : s.made ≡ true → s.span ≡ spanned (sizes_of (tables_of s))
-  made-spans m = s.spans ∙ (found-when (tables_of s) (range (tables_of s)) refl (sym s.checked ∙ m)).1
+  pub made_spans : s.made ≡ true → s.span ≡ spanned (sizes_of (tables_of s))
+  made_spans m = s.spans ∙ (found_when (tables_of s) (range (tables_of s)) refl (sym s.checked ∙ m)).1
 
-  pub made-of-tables : Made (tables_of s) s
-  made-of-tables =
+  pub made_of_tables : Made (tables_of s) s
+  made_of_tables =
       record {
-        held = λ r. both (s.checked ∙ ap is_some (found-in-range (tables_of s) r));
+        held = λ r. both (s.checked ∙ ap is_some (found_in_range (tables_of s) r));
         refused = λ n. both (s.checked ∙ not_found (tables_of s) (range (tables_of s)) refl n);
       }
     where
       both : {b : Bool} → s.made ≡ b → (task_meaning s ≡ meaning_of b (tables_of s)) × (task_names s ≡ naming_of b (tables_of s))
       both e = (ap (λ b. meaning_of b (tables_of s)) e, ap (λ b. naming_of b (tables_of s)) e)
 
-  pub task-lawful : Lawful (task_meaning s)
-  task-lawful = go s.made refl
+  pub task_lawful : Lawful (task_meaning s)
+  task_lawful = go s.made refl
     where
       go : (b : Bool) → s.made ≡ b → Lawful (meaning_of b (tables_of s))
-      go true e = meant-lawful (tables_of s) (made-in-range e)
+      go true e = meant_lawful (tables_of s) (made_in_range e)
       go false e = nothing_lawful
 
-  pub task-nameless : (o : ℕ) → (task_meaning s).operators ≤ o → (task_names s).name o ≡ []
-  task-nameless o h = go s.made refl h
+  pub task_nameless : (o : ℕ) → (task_meaning s).operators ≤ o → (task_names s).name o ≡ []
+  task_nameless o h = go s.made refl h
     where
       go : (b : Bool) → s.made ≡ b → (meaning_of b (tables_of s)).operators ≤ o → (naming_of b (tables_of s)).name o ≡ []
-      go true e h = meant-nameless (tables_of s) (made-in-range e) o h
+      go true e h = meant_nameless (tables_of s) (made_in_range e) o h
       go false e h = refl
 
   -- where the task is made its operators are those in use, and else there is none
@@ -56,5 +56,5 @@ module _ (s : SasTask) where
   no_more o f = go s.made refl
     where
       go : (b : Bool) → s.made ≡ b → (meaning_of b (tables_of s)).operators ≤ o
-      go true e = omega (arith, actions-count (tables_of s) (made-in-range e), f e)
+      go true e = omega (arith, actions_count (tables_of s) (made_in_range e), f e)
       go false e = omega arith

@@ -44,19 +44,19 @@ sized_from_each (n ∷ ns) e =
     (both.0.0, sized_from_each ns both.1)
 
 module _ (vars : List Variable) (i p : ℕ) (h : i < length vars) where
-  product-here : product p (sizes (drop i vars)) ≡ product p ((get_or vars i no_variable).size ∷ sizes (drop (i + 1) vars))
-  product-here = at_drop_more (λ l. product p (sizes l)) vars i no_variable h
+  product_here : product p (sizes (drop i vars)) ≡ product p ((get_or vars i no_variable).size ∷ sizes (drop (i + 1) vars))
+  product_here = at_drop_more (λ l. product p (sizes l)) vars i no_variable h
 
   -- a size out of range
-  pub product-odd : size_fits (get_or vars i no_variable).size ≡ false → product p (sizes (drop i vars)) ≡ None
-  product-odd e =
+  pub product_odd : size_fits (get_or vars i no_variable).size ≡ false → product p (sizes (drop i vars)) ≡ None
+  product_odd e =
       let n = (get_or vars i no_variable).size in
       let ns = sizes (drop (i + 1) vars) in
-      product-here ∙ ap (λ b. cond (b && each size_fits ns && leb (p * (n * spanned ns)) (2 ^ 60)) (Some (p * (n * spanned ns))) None) e
+      product_here ∙ ap (λ b. cond (b && each size_fits ns && leb (p * (n * spanned ns)) (2 ^ 60)) (Some (p * (n * spanned ns))) None) e
 
-  pub product-large : size_fits (get_or vars i no_variable).size ≡ true → 2 ^ 60 < p * (get_or vars i no_variable).size → product p (sizes (drop i vars)) ≡ None
-  product-large e l =
-      product-here
+  pub product_large : size_fits (get_or vars i no_variable).size ≡ true → 2 ^ 60 < p * (get_or vars i no_variable).size → product p (sizes (drop i vars)) ≡ None
+  product_large e l =
+      product_here
       ∙ (ap (λ b. cond (b && each size_fits ns && leb (p * (n * spanned ns)) (2 ^ 60)) (Some (p * (n * spanned ns))) None) e ∙ go (each size_fits ns) refl)
     where
       n : ℕ
@@ -71,11 +71,11 @@ module _ (vars : List Variable) (i p : ℕ) (h : i < length vars) where
           let grows : (p * n) * 1 ≤ (p * n) * spanned ns = mul-le (p * n) 1 (p * n) _ (omega arith) (spanned_positive ns (sized_from_each ns f)) in
           ap (λ b. cond b (Some (p * (n * spanned ns))) None) (lt-leb (p * (n * spanned ns)) (2 ^ 60) (omega (arith, mul_assoc p n (spanned ns), mul-one (p * n))))
 
-  pub product-more : size_fits (get_or vars i no_variable).size ≡ true → product p (sizes (drop i vars)) ≡ product (p * (get_or vars i no_variable).size) (sizes (drop (i + 1) vars))
-  product-more e =
+  pub product_more : size_fits (get_or vars i no_variable).size ≡ true → product p (sizes (drop i vars)) ≡ product (p * (get_or vars i no_variable).size) (sizes (drop (i + 1) vars))
+  product_more e =
       let n = (get_or vars i no_variable).size in
       let ns = sizes (drop (i + 1) vars) in
-      product-here
+      product_here
       ∙ (ap (λ b. cond (b && each size_fits ns && leb (p * (n * spanned ns)) (2 ^ 60)) (Some (p * (n * spanned ns))) None) e ∙ ap (λ q. cond (each size_fits ns && leb q (2 ^ 60)) (Some q) None) (sym (mul_assoc p n (spanned ns))))
 
 pub product_all : (vars : List Variable) (i p : ℕ) → length vars ≤ i → p ≤ 2 ^ 60 → product p (sizes (drop i vars)) ≡ Some p

@@ -15,24 +15,24 @@ use Rattle.sas.specs.States.{spanned, values, numbered}
 use Rattle.sas.specs.Tables.{ConditionFits, part, action_of}
 use Rattle.sas.specs.Values.{Below, Sized, Within, sizes}
 use Rattle.sas.specs.Scans.{acts, led, FirstActing, FirstLed, Placed, Fitted}
-use Rattle.sas.proofs.Acts.{nth-there, nth_past}
+use Rattle.sas.proofs.Acts.{nth_there, nth_past}
 use Rattle.sas.proofs.Assigned.{length-values, values_below}
-use Rattle.task.proofs.Members.{each-weaker}
+use Rattle.task.proofs.Members.{each_weaker}
 use Rattle.sas.proofs.Walks.{no_operator}
 
 pub fits_within : (ns : List ℕ) (n : ℕ) (cs : List Condition) → length ns ≡ n → Each (ConditionFits ns) cs → Within n cs
-fits_within ns n cs e f = each-weaker (ConditionFits ns) (λ c. c.variable < n) (λ c p. omega (arith, p.known)) cs f
+fits_within ns n cs e f = each_weaker (ConditionFits ns) (λ c. c.variable < n) (λ c p. omega (arith, p.known)) cs f
 
 -- values vs that are those of a state
 module _ (vars : List Variable) (s : ℕ) (vs : List ℕ) (e : vs ≡ values (sizes vars) s) where
-  pub length-decoded : length vs ≡ length vars
-  length-decoded = ap length e ∙ (length-values (sizes vars) s ∙ length-map vars (λ v. v.size))
+  pub length_decoded : length vs ≡ length vars
+  length_decoded = ap length e ∙ (length-values (sizes vars) s ∙ length-map vars (λ v. v.size))
 
-  pub fits-decoded : (cs : List Condition) → Each (ConditionFits (sizes vars)) cs → Within (length vs) cs
-  fits-decoded cs f = fits_within (sizes vars) (length vs) cs (length-map vars (λ v. v.size) ∙ sym length-decoded) f
+  pub fits_decoded : (cs : List Condition) → Each (ConditionFits (sizes vars)) cs → Within (length vs) cs
+  fits_decoded cs f = fits_within (sizes vars) (length vs) cs (length-map vars (λ v. v.size) ∙ sym length_decoded) f
 
-  pub below-decoded : Sized (sizes vars) → Below (sizes vars) vs
-  below-decoded z = subst (Below (sizes vars)) (sym e) (values_below (sizes vars) s z)
+  pub below_decoded : Sized (sizes vars) → Below (sizes vars) vs
+  below_decoded z = subst (Below (sizes vars)) (sym e) (values_below (sizes vars) s z)
 
 -- what holds from one number up to another, and of that, holds one further
 pub before_more : (P : ℕ → Type 0) (from n : ℕ) → ((o : ℕ) → from ≤ o → o < n → P o) → P n → (o : ℕ) → from ≤ o → o < n + 1 → P o
@@ -40,17 +40,17 @@ before_more P from n f p o h l = ⊎_elim (λ k. f o h k) (λ k. subst P (let e 
 
 pub fitted_placed : (cs : List Condition) (ns : List ℕ) (n : ℕ) (os : List Operator) → length ns ≡ n → Each (Fitted cs ns) os → Each (Placed cs n) os
 fitted_placed cs ns n os e f =
-    each-weaker (Fitted cs ns) (Placed cs n) (λ o p. record { there = p.there; within = fits_within ns n (part cs o.first o.count) e p.fit }) os f
+    each_weaker (Fitted cs ns) (Placed cs n) (λ o p. record { there = p.there; within = fits_within ns n (part cs o.first o.count) e p.fit }) os f
 
 -- an operator that is there, with its conditions ds
 module _ (cs : List Condition) (os : List Operator) (o : ℕ) (h : o < length os) (ds : List Condition) (d : ds ≡ part cs (get_or os o no_operator).first (get_or os o no_operator).count) where
-  pub acts-there : (vs : List ℕ) (b : Bool) → b ≡ applies ds vs → acts cs vs (nth os o) ≡ b
-  acts-there vs b e = ap (acts cs vs) (nth-there os o no_operator h) ∙ (ap (λ l. applies l vs) (sym d) ∙ sym e)
+  pub acts_there : (vs : List ℕ) (b : Bool) → b ≡ applies ds vs → acts cs vs (nth os o) ≡ b
+  acts_there vs b e = ap (acts cs vs) (nth_there os o no_operator h) ∙ (ap (λ l. applies l vs) (sym d) ∙ sym e)
 
-  pub led-there : (ns : List ℕ) (s : ℕ) → acts cs (values ns s) (nth os o) ≡ true → led ns cs s (nth os o) ≡ Some (numbered ns (changed ds (values ns s)))
-  led-there ns s e =
-      let here = ap (led ns cs s) (nth-there os o no_operator h) in
-      let act : applies ds (values ns s) ≡ true = sym (acts-there (values ns s) (applies ds (values ns s)) refl) ∙ e in
+  pub led_there : (ns : List ℕ) (s : ℕ) → acts cs (values ns s) (nth os o) ≡ true → led ns cs s (nth os o) ≡ Some (numbered ns (changed ds (values ns s)))
+  led_there ns s e =
+      let here = ap (led ns cs s) (nth_there os o no_operator h) in
+      let act : applies ds (values ns s) ≡ true = sym (acts_there (values ns s) (applies ds (values ns s)) refl) ∙ e in
       here
       ∙ (ap (λ l. cond (applies l (values ns s)) (Some (numbered ns (changed l (values ns s)))) None) (sym d)
       ∙ cond-true (applies ds (values ns s)) (Some (numbered ns (changed ds (values ns s)))) None act)
@@ -66,11 +66,11 @@ led_nowhere ns cs s (Some o) e =
 
 -- the first operator that acts is the first that leads somewhere
 module _ (ns : List ℕ) (cs : List Condition) (os : List Operator) (s from : ℕ) (vs : List ℕ) (e : vs ≡ values ns s) where
-  pub first-led : (f n : ℕ) (ds : List Condition) → ds ≡ part cs (get_or os f no_operator).first (get_or os f no_operator).count → n ≡ numbered ns (changed ds vs) → FirstActing cs os vs from (Some f) → FirstLed (λ o. led ns cs s (nth os o)) from (Some (f, n))
-  first-led f n ds d m a =
+  pub first_led : (f n : ℕ) (ds : List Condition) → ds ≡ part cs (get_or os f no_operator).first (get_or os f no_operator).count → n ≡ numbered ns (changed ds vs) → FirstActing cs os vs from (Some f) → FirstLed (λ o. led ns cs s (nth os o)) from (Some (f, n))
+  first_led f n ds d m a =
       let act : acts cs (values ns s) (nth os f) ≡ true = ap (λ v. acts cs v (nth os f)) (sym e) ∙ a.2 in
       let same : n ≡ numbered ns (changed ds (values ns s)) = m ∙ ap (λ v. numbered ns (changed ds v)) e in
-      (a.0, led-there cs os f a.1 ds d ns s act ∙ ap Some (sym same), λ o h l. led_nowhere ns cs s (nth os o) (ap (λ v. acts cs v (nth os o)) (sym e) ∙ a.3 o h l))
+      (a.0, led_there cs os f a.1 ds d ns s act ∙ ap Some (sym same), λ o h l. led_nowhere ns cs s (nth os o) (ap (λ v. acts cs v (nth os o)) (sym e) ∙ a.3 o h l))
 
 -- in a state, where an operator leads is where its action does
 pub led_moved : (ns : List ℕ) (cs : List Condition) (s : ℕ) → s < spanned ns → (os : List Operator) (o : ℕ) → led ns cs s (nth os o) ≡ moved ns (nth (map (action_of cs) os) o) s

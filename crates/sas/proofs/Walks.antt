@@ -62,30 +62,30 @@ module _ (vars : List Variable) (vals : List ℕ) (b : Below (sizes vars) vals) 
   same_length = length_below (sizes vars) vals b ∙ length-map vars (λ v. v.size)
 
   module _ (i number weight : ℕ) (h : i < length vars) (left : Left vars vals i number weight) where
-    sum-here : number + (weight * get_or vals i 0 + summed (weight * (get_or vars i no_variable).size) (sizes (drop (i + 1) vars)) (drop (i + 1) vals)) ≡ numbered (sizes vars) vals
-    sum-here =
+    sum_here : number + (weight * get_or vals i 0 + summed (weight * (get_or vars i no_variable).size) (sizes (drop (i + 1) vars)) (drop (i + 1) vals)) ≡ numbered (sizes vars) vals
+    sum_here =
         let k : i < length vals = omega (arith, same_length) in
         let one = ap (λ l. summed weight (sizes l) (drop i vals)) (drop_more vars i no_variable h) in
         let two = ap (λ l. summed weight (sizes (get_or vars i no_variable ∷ drop (i + 1) vars)) l) (drop_more vals i 0 k) in
         ap (λ n. number + n) (sym (one ∙ two)) ∙ left.sum
 
-    span-here : (weight * (get_or vars i no_variable).size) * spanned (sizes (drop (i + 1) vars)) ≡ spanned (sizes vars)
-    span-here =
+    span_here : (weight * (get_or vars i no_variable).size) * spanned (sizes (drop (i + 1) vars)) ≡ spanned (sizes vars)
+    span_here =
         mul_assoc weight (get_or vars i no_variable).size (spanned (sizes (drop (i + 1) vars)))
         ∙ (ap (λ n. weight * n) (sym (at_drop_more (λ l. spanned (sizes l)) vars i no_variable h)) ∙ left.span)
 
-    pub left-more : Left vars vals (i + 1) (number + weight * get_or vals i 0) (weight * (get_or vars i no_variable).size)
-    left-more = record { sum = omega (arith, sum-here); span = span-here }
+    pub left_more : Left vars vals (i + 1) (number + weight * get_or vals i 0) (weight * (get_or vars i no_variable).size)
+    left_more = record { sum = omega (arith, sum_here); span = span_here }
 
-    pub number-below : number + weight * get_or vals i 0 < spanned (sizes vars)
-    number-below = omega (arith, sum-here, numbered_below (sizes vars) vals b)
+    pub number_below : number + weight * get_or vals i 0 < spanned (sizes vars)
+    number_below = omega (arith, sum_here, numbered_below (sizes vars) vals b)
 
-    pub weight-below : weight * (get_or vars i no_variable).size ≤ spanned (sizes vars)
-    weight-below =
+    pub weight_below : weight * (get_or vars i no_variable).size ≤ spanned (sizes vars)
+    weight_below =
         let rest : Sized (sizes (drop (i + 1) vars)) = subst Sized (drop-map (λ v. v.size) (i + 1) vars) (each-drop (λ n. 1 ≤ n) (i + 1) (sizes vars) (below_sized (sizes vars) vals b)) in
         let w = weight * (get_or vars i no_variable).size in
         let grows : w * 1 ≤ w * spanned (sizes (drop (i + 1) vars)) = mul-le w 1 w _ (omega arith) (spanned_positive _ rest) in
-        omega (arith, grows, mul-one w, span-here)
+        omega (arith, grows, mul-one w, span_here)
 
 pub left_all : (vars : List Variable) (vals : List ℕ) (i number weight : ℕ) → length vars ≤ i → Left vars vals i number weight → number ≡ numbered (sizes vars) vals
 left_all vars vals i number weight h left =

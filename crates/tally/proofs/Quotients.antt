@@ -68,22 +68,22 @@ round_to_one a c C h = subst (λ z. T (le (round binary64 false a c) z)) one_flo
 pub quotient_share : (p : Pair) → IsPair p → p.all ≤ 2 ^ 53 → Share p (quotient p)
 quotient_share p h k =
     record {
-      with_exact = with-is;
-      all_exact = all-is;
+      with_exact = with_is;
+      all_exact = all_is;
       nearest = near;
       number = number_from_zero (quotient p) low;
       from_zero = low;
       to_one = subst (λ z. T (le z (fin false 1 (pos 0)))) (sym near) (round_to_one p.with p.all h.some h.within);
     }
   where
-    with-is : HasValue (whole_float p.with) false p.with 1
-    with-is = whole_float_exact p.with (omega arith)
+    with_is : HasValue (whole_float p.with) false p.with 1
+    with_is = whole_float_exact p.with (omega arith)
 
-    all-is : HasValue (whole_float p.all) false p.all 1
-    all-is = whole_float_exact p.all k
+    all_is : HasValue (whole_float p.all) false p.all 1
+    all_is = whole_float_exact p.all k
 
     near : quotient p ≡ round binary64 false p.with p.all
-    near = div_nearest (whole_float p.with) (whole_float p.all) p.with p.all h.some with-is all-is
+    near = div_nearest (whole_float p.with) (whole_float p.all) p.with p.all h.some with_is all_is
 
     low : T (le (fin false 0 (pos 0)) (quotient p))
     low = subst (λ z. T (le (fin false 0 (pos 0)) z)) (sym near) (round_from_zero p.with p.all h.some)

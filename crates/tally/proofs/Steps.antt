@@ -9,9 +9,9 @@ module _ {V : Type 0} (y : Summary V) where
   extended-append v [] ps = refl
   extended-append v (o ∷ os) ps = extended-append (y.extend v o) os ps
 
-  pub value-of-push : (os : List ℕ) (o : ℕ) → value_of y (os ++ o ∷ []) ≡ y.extend (value_of y os) o
-  value-of-push os o = extended-append y.unit os (o ∷ [])
+  pub value_of-push : (os : List ℕ) (o : ℕ) → value_of y (os ++ o ∷ []) ≡ y.extend (value_of y os) o
+  value_of-push os o = extended-append y.unit os (o ∷ [])
 
   -- one more step of a plan
-  pub value-of-more : (os : List ℕ) (i : ℕ) → i < length os → value_of y (take (i + 1) os) ≡ y.extend (value_of y (take i os)) (get_or os i 0)
-  value-of-more os i h = ap (value_of y) (take_more os i 0 h) ∙ value-of-push (take i os) (get_or os i 0)
+  pub value_of_more : (os : List ℕ) (i : ℕ) → i < length os → value_of y (take (i + 1) os) ≡ y.extend (value_of y (take i os)) (get_or os i 0)
+  value_of_more os i h = ap (value_of y) (take_more os i 0 h) ∙ value_of-push (take i os) (get_or os i 0)

@@ -2,45 +2,45 @@
 use Rattle.std.proofs.Common.{◌≡◌, ℕ, ◌<◌, ◌⊎◌, List, [], ◌∷◌, ◌++◌, map, sym, refl, ap, subst, ap₂, inl, inr, ⊎_elim, arith}
 use Rattle.task.specs.Listing.{Each, In, Ascending, AllOf}
 use Rattle.task.specs.Order.{Before}
-use Rattle.task.proofs.Members.{each-weaker, each_both, each_append, each_in, in_left, in_right, in_map, each_map}
+use Rattle.task.proofs.Members.{each_weaker, each_both, each_append, each_in, in_left, in_right, in_map, each_map}
 
 module _ {A : Type 0} (R : A → A → Type 0) where
-  pub ascending-append : (P Q : A → Type 0) → ((x y : A) → P x → Q y → R x y) → (xs ys : List A) → Ascending R xs → Each P xs → Ascending R ys → Each Q ys → Ascending R (xs ++ ys)
-  ascending-append P Q f [] ys a e b h = b
-  ascending-append P Q f (x ∷ xs) ys a e b h =
-      (each_append (R x) xs ys a.0 (each-weaker Q (R x) (λ y q. f x y e.0 q) ys h), ascending-append P Q f xs ys a.1 e.1 b h)
+  pub ascending_append : (P Q : A → Type 0) → ((x y : A) → P x → Q y → R x y) → (xs ys : List A) → Ascending R xs → Each P xs → Ascending R ys → Each Q ys → Ascending R (xs ++ ys)
+  ascending_append P Q f [] ys a e b h = b
+  ascending_append P Q f (x ∷ xs) ys a e b h =
+      (each_append (R x) xs ys a.0 (each_weaker Q (R x) (λ y q. f x y e.0 q) ys h), ascending_append P Q f xs ys a.1 e.1 b h)
 
-  pub ascending-map : (S : A → A → Type 0) (f : A → A) → ((x y : A) → S x y → R (f x) (f y)) → (xs : List A) → Ascending S xs → Ascending R (map f xs)
-  ascending-map S f h [] a = tt
-  ascending-map S f h (x ∷ xs) a =
-      (each_map f (R (f x)) xs (each-weaker (S x) (λ y. R (f x) (f y)) (h x) xs a.0), ascending-map S f h xs a.1)
+  pub ascending_map : (S : A → A → Type 0) (f : A → A) → ((x y : A) → S x y → R (f x) (f y)) → (xs : List A) → Ascending S xs → Ascending R (map f xs)
+  ascending_map S f h [] a = tt
+  ascending_map S f h (x ∷ xs) a =
+      (each_map f (R (f x)) xs (each_weaker (S x) (λ y. R (f x) (f y)) (h x) xs a.0), ascending_map S f h xs a.1)
 
   -- no P: the empty list
-  pub all-of-none : (P : A → Type 0) → ((y : A) → P y → ⊥) → AllOf R P []
-  all-of-none P f = record { ascending = tt; each = tt; whole = f }
+  pub all_of_none : (P : A → Type 0) → ((y : A) → P y → ⊥) → AllOf R P []
+  all_of_none P f = record { ascending = tt; each = tt; whole = f }
 
   -- one P: the list of it
-  pub all-of-one : (P : A → Type 0) (x : A) → P x → ((y : A) → P y → y ≡ x) → AllOf R P (x ∷ [])
-  all-of-one P x p f = record { ascending = (tt, tt); each = (p, tt); whole = λ y q. inl (f y q) }
+  pub all_of_one : (P : A → Type 0) (x : A) → P x → ((y : A) → P y → y ≡ x) → AllOf R P (x ∷ [])
+  all_of_one P x p f = record { ascending = (tt, tt); each = (p, tt); whole = λ y q. inl (f y q) }
 
   -- the same list for a kind that says the same
-  pub all-of-alike : (P Q : A → Type 0) → ((y : A) → P y → Q y) → ((y : A) → Q y → P y) → (xs : List A) → AllOf R P xs → AllOf R Q xs
-  all-of-alike P Q f g xs a =
-      record { ascending = a.ascending; each = each-weaker P Q f xs a.each; whole = λ y q. a.whole y (g y q) }
+  pub all_of_alike : (P Q : A → Type 0) → ((y : A) → P y → Q y) → ((y : A) → Q y → P y) → (xs : List A) → AllOf R P xs → AllOf R Q xs
+  all_of_alike P Q f g xs a =
+      record { ascending = a.ascending; each = each_weaker P Q f xs a.each; whole = λ y q. a.whole y (g y q) }
 
   -- all P, then all Q, where each P stands before each Q
-  pub all-of-either : (P Q : A → Type 0) → ((x y : A) → P x → Q y → R x y) → (xs ys : List A) → AllOf R P xs → AllOf R Q ys → AllOf R (λ y. P y ⊎ Q y) (xs ++ ys)
-  all-of-either P Q f xs ys a b =
+  pub all_of_either : (P Q : A → Type 0) → ((x y : A) → P x → Q y → R x y) → (xs ys : List A) → AllOf R P xs → AllOf R Q ys → AllOf R (λ y. P y ⊎ Q y) (xs ++ ys)
+  all_of_either P Q f xs ys a b =
       record {
-        ascending = ascending-append P Q f xs ys a.ascending a.each b.ascending b.each;
+        ascending = ascending_append P Q f xs ys a.ascending a.each b.ascending b.each;
         each =
-            each_append (λ y. P y ⊎ Q y) xs ys (each-weaker P (λ y. P y ⊎ Q y) (λ y. inl) xs a.each) (each-weaker Q (λ y. P y ⊎ Q y) (λ y. inr) ys b.each);
+            each_append (λ y. P y ⊎ Q y) xs ys (each_weaker P (λ y. P y ⊎ Q y) (λ y. inl) xs a.each) (each_weaker Q (λ y. P y ⊎ Q y) (λ y. inr) ys b.each);
         whole = λ y. ⊎_elim (λ p. in_left y xs ys (a.whole y p)) (λ q. in_right y xs ys (b.whole y q));
       }
 
   -- what is left of all P after the first: all P that stand after it
-  pub all-of-rest : ((x : A) → R x x → ⊥) → (P : A → Type 0) (x : A) (xs : List A) → AllOf R P (x ∷ xs) → AllOf R (λ y. P y × R x y) xs
-  all-of-rest irreflexive P x xs a =
+  pub all_of_rest : ((x : A) → R x x → ⊥) → (P : A → Type 0) (x : A) (xs : List A) → AllOf R P (x ∷ xs) → AllOf R (λ y. P y × R x y) xs
+  all_of_rest irreflexive P x xs a =
       record {
         ascending = a.ascending.1;
         each = each_both P (R x) xs a.each.1 a.ascending.0;
@@ -48,12 +48,12 @@ module _ {A : Type 0} (R : A → A → Type 0) where
       }
 
   -- there is one list of all P, in a strict order
-  pub all-of-unique : ((x : A) → R x x → ⊥) → ((x y : A) → R x y → R y x → ⊥) → (P : A → Type 0) (xs ys : List A) → AllOf R P xs → AllOf R P ys → xs ≡ ys
-  all-of-unique ir asym P [] [] a b = refl
-  all-of-unique ir asym P [] (y ∷ ys) a b = absurd (a.whole y b.each.0)
-  all-of-unique ir asym P (x ∷ xs) [] a b = absurd (b.whole x a.each.0)
-  all-of-unique ir asym P (x ∷ xs) (y ∷ ys) a b =
-      ap₂ ◌∷◌ same (all-of-unique ir asym (λ z. P z × R x z) xs ys (all-of-rest ir P x xs a) (all-of-rest ir P x ys (subst (λ z. AllOf R P (z ∷ ys)) (sym same) b)))
+  pub all_of_unique : ((x : A) → R x x → ⊥) → ((x y : A) → R x y → R y x → ⊥) → (P : A → Type 0) (xs ys : List A) → AllOf R P xs → AllOf R P ys → xs ≡ ys
+  all_of_unique ir asym P [] [] a b = refl
+  all_of_unique ir asym P [] (y ∷ ys) a b = absurd (a.whole y b.each.0)
+  all_of_unique ir asym P (x ∷ xs) [] a b = absurd (b.whole x a.each.0)
+  all_of_unique ir asym P (x ∷ xs) (y ∷ ys) a b =
+      ap₂ ◌∷◌ same (all_of_unique ir asym (λ z. P z × R x z) xs ys (all_of_rest ir P x xs a) (all_of_rest ir P x ys (subst (λ z. AllOf R P (z ∷ ys)) (sym same) b)))
     where
       same : x ≡ y
       same =
@@ -76,7 +76,7 @@ not_before_each_other (o ∷ os) (p ∷ ps) (inr l) (inr k) = not_before_each_ot
 
 -- there is one listing of all P
 pub listing_unique : (P : List ℕ → Type 0) (xs ys : List (List ℕ)) → AllOf Before P xs → AllOf Before P ys → xs ≡ ys
-listing_unique = all-of-unique Before not_before_itself not_before_each_other
+listing_unique = all_of_unique Before not_before_itself not_before_each_other
 
 -- the lists that begin with o and go on as a P
 abbrev pub LedBy : ℕ → (List ℕ → Type 0) → List ℕ → Type 0
@@ -87,8 +87,8 @@ LedBy o P (p ∷ ps) = (p ≡ o) × P ps
 pub all_of_led : (o : ℕ) (P : List ℕ → Type 0) (xs : List (List ℕ)) → AllOf Before P xs → AllOf Before (LedBy o P) (map (λ os. o ∷ os) xs)
 all_of_led o P xs a =
     record {
-      ascending = ascending-map Before Before (λ os. o ∷ os) (λ os ps b. inr (refl, b)) xs a.ascending;
-      each = each_map (λ os. o ∷ os) (LedBy o P) xs (each-weaker P (λ os. LedBy o P (o ∷ os)) (λ os p. (refl, p)) xs a.each);
+      ascending = ascending_map Before Before (λ os. o ∷ os) (λ os ps b. inr (refl, b)) xs a.ascending;
+      each = each_map (λ os. o ∷ os) (LedBy o P) xs (each_weaker P (λ os. LedBy o P (o ∷ os)) (λ os p. (refl, p)) xs a.each);
       whole = led;
     }
   where

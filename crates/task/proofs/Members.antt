@@ -8,9 +8,9 @@ module _ {A : Type 0} (P : A → Type 0) where
   each_at (x ∷ xs) zero d h e = e.0
   each_at (x ∷ xs) (suc i) d h e = each_at xs i d (omega arith) e.1
 
-  pub each-from-at : (xs : List A) (d : A) → ((i : ℕ) → i < length xs → P (get_or xs i d)) → Each P xs
-  each-from-at [] d f = tt
-  each-from-at (x ∷ xs) d f = (f 0 (omega arith), each-from-at xs d (λ i h. f (suc i) (omega arith)))
+  pub each_from_at : (xs : List A) (d : A) → ((i : ℕ) → i < length xs → P (get_or xs i d)) → Each P xs
+  each_from_at [] d f = tt
+  each_from_at (x ∷ xs) d f = (f 0 (omega arith), each_from_at xs d (λ i h. f (suc i) (omega arith)))
 
   pub each_take : (n : ℕ) (xs : List A) → Each P xs → Each P (take n xs)
   each_take zero xs e = tt
@@ -23,9 +23,9 @@ module _ {A : Type 0} (P : A → Type 0) where
   each-drop (suc n) (x ∷ xs) e = each-drop n xs e.1
 
 module _ {A : Type 0} where
-  pub each-weaker : (P Q : A → Type 0) → ((y : A) → P y → Q y) → (xs : List A) → Each P xs → Each Q xs
-  each-weaker P Q f [] e = tt
-  each-weaker P Q f (x ∷ xs) e = (f x e.0, each-weaker P Q f xs e.1)
+  pub each_weaker : (P Q : A → Type 0) → ((y : A) → P y → Q y) → (xs : List A) → Each P xs → Each Q xs
+  each_weaker P Q f [] e = tt
+  each_weaker P Q f (x ∷ xs) e = (f x e.0, each_weaker P Q f xs e.1)
 
   pub each_both : (P Q : A → Type 0) (xs : List A) → Each P xs → Each Q xs → Each (λ y. P y × Q y) xs
   each_both P Q [] e h = tt

@@ -10,16 +10,16 @@ pub record Agree (xs ys : List ℕ) (i : ℕ) : Type 0 where
 
 module _ (xs ys : List ℕ) (i : ℕ) where
   -- what the lists are from place i on
-  at-heads : i < length xs → i < length ys → (P : List ℕ → List ℕ → Type 0) → P (drop i xs) (drop i ys) → P (get_or xs i 0 ∷ drop (i + 1) xs) (get_or ys i 0 ∷ drop (i + 1) ys)
-  at-heads h k P p = subst₂ P (drop_more xs i 0 h) (drop_more ys i 0 k) p
+  at_heads : i < length xs → i < length ys → (P : List ℕ → List ℕ → Type 0) → P (drop i xs) (drop i ys) → P (get_or xs i 0 ∷ drop (i + 1) xs) (get_or ys i 0 ∷ drop (i + 1) ys)
+  at_heads h k P p = subst₂ P (drop_more xs i 0 h) (drop_more ys i 0 k) p
 
   from_heads : i < length xs → i < length ys → (P : List ℕ → List ℕ → Type 0) → P (get_or xs i 0 ∷ drop (i + 1) xs) (get_or ys i 0 ∷ drop (i + 1) ys) → P (drop i xs) (drop i ys)
   from_heads h k P p = subst₂ P (sym (drop_more xs i 0 h)) (sym (drop_more ys i 0 k)) p
 
-  pub agree-more : i < length xs → i < length ys → get_or xs i 0 ≡ get_or ys i 0 → Agree xs ys i → Agree xs ys (i + 1)
-  agree-more h k e a =
+  pub agree_more : i < length xs → i < length ys → get_or xs i 0 ≡ get_or ys i 0 → Agree xs ys i → Agree xs ys (i + 1)
+  agree_more h k e a =
       record {
-        into = λ b. tail (at-heads h k Before (a.into b));
+        into = λ b. tail (at_heads h k Before (a.into b));
         back = λ b. a.back (from_heads h k Before (inr (e, b)));
       }
     where
@@ -27,11 +27,11 @@ module _ (xs ys : List ℕ) (i : ℕ) where
       tail (inl l) = absurd (omega arith)
       tail (inr p) = p.1
 
-  pub less-here : i < length xs → i < length ys → get_or xs i 0 < get_or ys i 0 → Agree xs ys i → Before xs ys
-  less-here h k l a = a.back (from_heads h k Before (inl l))
+  pub less_here : i < length xs → i < length ys → get_or xs i 0 < get_or ys i 0 → Agree xs ys i → Before xs ys
+  less_here h k l a = a.back (from_heads h k Before (inl l))
 
-  pub more-here : i < length xs → i < length ys → get_or ys i 0 < get_or xs i 0 → Agree xs ys i → Before xs ys → ⊥
-  more-here h k l a b = not (at-heads h k Before (a.into b))
+  pub more_here : i < length xs → i < length ys → get_or ys i 0 < get_or xs i 0 → Agree xs ys i → Before xs ys → ⊥
+  more_here h k l a b = not (at_heads h k Before (a.into b))
     where
       not : Before (get_or xs i 0 ∷ drop (i + 1) xs) (get_or ys i 0 ∷ drop (i + 1) ys) → ⊥
       not (inl m) = omega arith

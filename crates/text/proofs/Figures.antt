@@ -10,8 +10,8 @@ module _ (all digits : List ℕ) (rest from : ℕ) (within : from < length digit
       let digit = 48 + rest % 10 in
       so_far ∙ ap (λ l. l ++ drop (from + 1) digits) (decimal_step rest more fits) ∙ append_assoc (decimal (rest / 10)) (digit ∷ []) (drop (from + 1) digits) ∙ ap (λ l. decimal (rest / 10) ++ l) (sym (drop-set digits from digit within))
 
-  pub all-written : rest < 10 → drop from (set digits from (48 + rest)) ≡ all
-  all-written few =
+  pub all_written : rest < 10 → drop from (set digits from (48 + rest)) ≡ all
+  all_written few =
       drop-set digits from (48 + rest) within ∙ ap (λ l. l ++ drop (from + 1) digits) (sym (decimal_digit rest few)) ∙ sym so_far
 
 pub fewer_digits : (rest k : ℕ) → rest < 10 ^ (k + 1) → rest / 10 < 10 ^ k

@@ -6,19 +6,19 @@ use Rattle.task.specs.declared.faults.Kind.TheVariants.{BufferShort}
 use Rattle.text.specs.Buffer.{text_fault, fit}
 
 module _ (room end : ℕ) where
-  pub ok-from-fit : (e : ℕ) → Ok e ≡ fit room end → (e ≡ end) × (end ≤ room)
-  ok-from-fit e = go (ltb room end) refl
+  pub ok_from_fit : (e : ℕ) → Ok e ≡ fit room end → (e ≡ end) × (end ≤ room)
+  ok_from_fit e = go (ltb room end) refl
     where
       go : (b : Bool) → ltb room end ≡ b → Ok e ≡ cond b (Err (text_fault BufferShort 0)) (Ok end) → (e ≡ end) × (end ≤ room)
       go true t p = absurd (grind arith)
       go false t p = (grind arith, ltb-false room end t)
 
-  pub fit-within : end ≤ room → Ok end ≡ fit room end
-  fit-within h = cond_above room end _ _ _ h refl
+  pub fit_within : end ≤ room → Ok end ≡ fit room end
+  fit_within h = cond_above room end _ _ _ h refl
 
   -- what does not fit, does not fit when it is longer
-  pub fit-longer : (f : Fault) (more : ℕ) → end ≤ more → Err f ≡ fit room end → Err f ≡ fit room more
-  fit-longer f more h = go (ltb room end) refl
+  pub fit_longer : (f : Fault) (more : ℕ) → end ≤ more → Err f ≡ fit room end → Err f ≡ fit room more
+  fit_longer f more h = go (ltb room end) refl
     where
       go : (b : Bool) → ltb room end ≡ b → Err f ≡ cond b (Err (text_fault BufferShort 0)) (Ok end) → Err f ≡ fit room more
       go true t p = p ∙ cond_below room more _ _ (omega (arith, ltb-true room end t))

@@ -18,8 +18,8 @@ further_more None j k e = refl
 further_more (Some n) j k e = ap Some (omega arith)
 
 module _ (bs : List ℕ) where
-  pub line-here : (i : ℕ) → i < length bs → get_or bs i 0 ≡ 10 → line_length (drop i bs) ≡ Some 0
-  line-here i h e = rw (drop_more bs i 0 h, eq-eqb (get_or bs i 0) 10 e)
+  pub line_here : (i : ℕ) → i < length bs → get_or bs i 0 ≡ 10 → line_length (drop i bs) ≡ Some 0
+  line_here i h e = rw (drop_more bs i 0 h, eq-eqb (get_or bs i 0) 10 e)
 
   pub line_on : (from i : ℕ) → from ≤ i → i < length bs → get_or bs i 0 ≢ 10 → further (i - from) (line_length (drop i bs)) ≡ further (i + 1 - from) (line_length (drop (i + 1) bs))
   line_on from i l h n =
@@ -27,8 +27,8 @@ module _ (bs : List ℕ) where
       ∙ ap (λ b. further (i - from) (cond b (Some 0) (one_more (line_length (drop (i + 1) bs))))) (ne_eqb (get_or bs i 0) 10 n)
       ∙ further_more (line_length (drop (i + 1) bs)) (i - from) (i + 1 - from) (omega arith)
 
-  pub line-over : (i : ℕ) → length bs ≤ i → line_length (drop i bs) ≡ None
-  line-over i h = rw (drop_all i bs h)
+  pub line_over : (i : ℕ) → length bs ≤ i → line_length (drop i bs) ≡ None
+  line_over i h = rw (drop_all i bs h)
 
 -- w and then the parts, of which it joins the first
 abbrev pub led : List ℕ → List (List ℕ) → List (List ℕ)
@@ -48,8 +48,8 @@ pub led_none : (bs : List ℕ) → cut bs ≡ led [] (cut bs)
 led_none bs = let s = some_part bs in rw s.2
 
 module _ (bs : List ℕ) (i : ℕ) where
-  pub led-more : i < length bs → get_or bs i 0 ≢ 32 → led (take i bs) (cut (drop i bs)) ≡ led (take (i + 1) bs) (cut (drop (i + 1) bs))
-  led-more h n =
+  pub led_more : i < length bs → get_or bs i 0 ≢ 32 → led (take i bs) (cut (drop i bs)) ≡ led (take (i + 1) bs) (cut (drop (i + 1) bs))
+  led_more h n =
       let s = some_part (drop (i + 1) bs) in
       ap (λ xs. led (take i bs) (cut xs)) (drop_more bs i 0 h)
       ∙ ap (λ b. led (take i bs) (cond b ([] ∷ cut (drop (i + 1) bs)) (onto (get_or bs i 0) (cut (drop (i + 1) bs))))) (ne_eqb (get_or bs i 0) 32 n)
@@ -58,15 +58,15 @@ module _ (bs : List ℕ) (i : ℕ) where
       ∙ ap (λ w. led w (s.0 ∷ s.1)) (sym (take_more bs i 0 h))
       ∙ ap (led (take (i + 1) bs)) (sym s.2)
 
-  pub led-space : i < length bs → get_or bs i 0 ≡ 32 → led (take i bs) (cut (drop i bs)) ≡ cut_at bs i
-  led-space h e =
+  pub led_space : i < length bs → get_or bs i 0 ≡ 32 → led (take i bs) (cut (drop i bs)) ≡ cut_at bs i
+  led_space h e =
       ap (λ xs. led (take i bs) (cut xs)) (drop_more bs i 0 h)
       ∙ ap (λ b. led (take i bs) (cond b ([] ∷ cut (drop (i + 1) bs)) (onto (get_or bs i 0) (cut (drop (i + 1) bs))))) (eq-eqb (get_or bs i 0) 32 e)
       ∙ ap (λ w. w ∷ cut (drop (i + 1) bs)) (append-nil (take i bs))
       ∙ ap (λ b. take i bs ∷ cond b (cut (drop (i + 1) bs)) []) (sym (lt-ltb i (length bs) h))
 
-  pub led-all : i ≡ length bs → led (take i bs) (cut (drop i bs)) ≡ cut_at bs i
-  led-all e =
+  pub led_all : i ≡ length bs → led (take i bs) (cut (drop i bs)) ≡ cut_at bs i
+  led_all e =
       ap (λ xs. led (take i bs) (cut xs)) (drop_all i bs (omega arith))
       ∙ ap (λ w. w ∷ []) (append-nil (take i bs))
       ∙ ap (λ b. take i bs ∷ cond b (cut (drop (i + 1) bs)) []) (sym (le-ltb i (length bs) (omega arith)))

@@ -43,25 +43,25 @@ own = numerals_by_value _ tells_all_ascii_digits
 
 -- a decimal form begins with 0 only where it is the only digit
 begins_well : (v : ℕ) → v ≤ 4294967295 → well_begun (decimal v) ≡ true
-begins_well v h = ⊎_elim zero-case more-case (cases_lt 0 v)
+begins_well v h = ⊎_elim zero_case more_case (cases_lt 0 v)
   where
-    zero-case : 0 < v → well_begun (decimal v) ≡ true
-    zero-case k =
+    zero_case : 0 < v → well_begun (decimal v) ≡ true
+    zero_case k =
         let some = decimal_nonempty v (omega arith) in
         let first = first_decimal v k (omega arith) in
         let a : ltb 0 (length (decimal v)) ≡ true = lt-ltb _ _ some in
         let e : eqb (get_or (decimal v) 0 0) 48 ≡ false = ne_eqb _ _ (λ q. omega arith) in
         and_from _ _ a (ap not (and_right (ltb 1 (length (decimal v))) _ e))
 
-    more-case : v ≤ 0 → well_begun (decimal v) ≡ true
-    more-case k =
+    more_case : v ≤ 0 → well_begun (decimal v) ≡ true
+    more_case k =
         let z : v ≡ 0 = omega arith in
         rw z (rw (decimal_digit 0 (omega arith)) refl)
 
 module _ (ds : List ℕ) where
   -- the decimal form of a number within the limit is read as that number
-  pub decimal-read : (v : ℕ) → v ≤ 4294967295 → ds ≡ decimal v → number_in ds ≡ Some v
-  decimal-read v h e =
+  pub decimal_read : (v : ℕ) → v ≤ 4294967295 → ds ≡ decimal v → number_in ds ≡ Some v
+  decimal_read v h e =
       let all : all_ascii_digits (decimal v) ≡ true = digits_decimal own v (omega arith) in
       let is : digits_value 10 (decimal v) ≡ v = digits_value-decimal own v (omega arith) in
       let within : leb (digits_value 10 (decimal v)) 4294967295 ≡ true = le-leb _ _ (omega arith) in
@@ -71,8 +71,8 @@ module _ (ds : List ℕ) where
   begun_first b z = grind (arith, nat_tests)
 
   -- what is read as a number is its decimal form
-  pub read-decimal : (v : ℕ) → number_in ds ≡ Some v → (v ≤ 4294967295) × (ds ≡ decimal v)
-  read-decimal v e =
+  pub read_decimal : (v : ℕ) → number_in ds ≡ Some v → (v ≤ 4294967295) × (ds ≡ decimal v)
+  read_decimal v e =
       let b : well_begun ds ≡ true = grind arith in
       let inner : value_within 0 ds ≡ Some v = sym (cond-true _ _ _ b) ∙ e in
       let t : (all_ascii_digits ds && leb (digits_value 10 ds) 4294967295) ≡ true = grind arith in
@@ -82,12 +82,12 @@ module _ (ds : List ℕ) where
       let some : 0 < length ds = grind (arith, nat_tests) in
       (omega arith, sym (decimal-digits_value own ds p.0 some (begun_first b) (omega arith)) ∙ ap decimal is)
 
-  pub number-in-decimal : Decimal ds (number_in ds)
-  number-in-decimal = go (number_in ds) refl
+  pub number_in_decimal : Decimal ds (number_in ds)
+  number_in_decimal = go (number_in ds) refl
     where
       go : (r : Option ℕ) → number_in ds ≡ r → Decimal ds r
-      go None e = λ v h d. let z = decimal-read v h d in grind arith
-      go (Some v) e = read-decimal v e
+      go None e = λ v h d. let z = decimal_read v h d in grind arith
+      go (Some v) e = read_decimal v e
 
 -- two lists of other lengths are not the same
 pub not_same : (xs ys : List ℕ) → (length xs ≡ length ys → ⊥) → same xs ys ≡ false

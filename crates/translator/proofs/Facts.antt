@@ -10,7 +10,7 @@ use Rattle.translator.specs.Filling.{filled}
 use Rattle.translator.specs.Reads.{Read}
 use Rattle.translator.specs.Sections.{repeated, condition_line, next_condition}
 use Rattle.translator.proofs.Fills.{none_filled, filled_more}
-use Rattle.translator.proofs.Repeats.{repeat-on, repeat_fault, repeat-done, chain, stop}
+use Rattle.translator.proofs.Repeats.{repeat_on, repeat_fault, repeat_done, chain, stop}
 
 -- what stays the same over the loop
 pub record Frame : Type 0 where
@@ -43,13 +43,13 @@ module _ {f : Frame} {i : ℕ} {p : Place} {seen : List Bool} {table cs : List C
   pub one_more : i < f.count → (c : Condition) (seen' : List Bool) (q : Place) → condition_line f.form f.sizes seen p ≡ Ok ((c, seen'), q) → (table' : List Condition) → table' ≡ cond f.write (set table (f.first + i) c) table → Sofar f (i + 1) q seen' table' (cs ++ c ∷ [])
   one_more h c seen' q reads table' stored =
       record {
-        on = repeat-on (next_condition f.form f.sizes) f.count i (cs, seen) p _ h so.on (cs ++ c ∷ [], seen') q (chain _ reads refl);
+        on = repeat_on (next_condition f.form f.sizes) f.count i (cs, seen) p _ h so.on (cs ++ c ∷ [], seen') q (chain _ reads refl);
         long = length_push cs c ∙ ap (λ k. k + 1) so.long;
         laid = stored ∙ ap (λ k. cond f.write (set table (f.first + k) c) table) (sym so.long) ∙ filled_more f.write f.table table f.first cs c so.laid;
       }
 
-  pub condition-fault : i < f.count → (e : Fault) → condition_line f.form f.sizes seen p ≡ Err e → whole f ≡ Err e
-  condition-fault h e reads = repeat_fault (next_condition f.form f.sizes) f.count i (cs, seen) p _ h so.on e (stop _ reads)
+  pub condition_fault : i < f.count → (e : Fault) → condition_line f.form f.sizes seen p ≡ Err e → whole f ≡ Err e
+  condition_fault h e reads = repeat_fault (next_condition f.form f.sizes) f.count i (cs, seen) p _ h so.on e (stop _ reads)
 
-  pub conditions-done : i ≡ f.count → (whole f ≡ Ok ((cs, seen), p)) × ConditionsFilled f.first f.count f.write f.table seen table (cs, seen)
-  conditions-done e = (repeat-done (next_condition f.form f.sizes) f.count i (cs, seen) p _ (omega arith) so.on, record { noted = refl; long = so.long ∙ e; laid = so.laid })
+  pub conditions_done : i ≡ f.count → (whole f ≡ Ok ((cs, seen), p)) × ConditionsFilled f.first f.count f.write f.table seen table (cs, seen)
+  conditions_done e = (repeat_done (next_condition f.form f.sizes) f.count i (cs, seen) p _ (omega arith) so.on, record { noted = refl; long = so.long ∙ e; laid = so.laid })

@@ -12,7 +12,7 @@ use Rattle.translator.specs.Filled.{ConditionsFilled, OperatorFilled, OperatorsF
 use Rattle.translator.specs.Filling.{filled, operator_record, operator_records}
 use Rattle.translator.specs.Sections.{text_line, conditions_section, cost_line, operator_section, next_operator, none_seen, repeated}
 use Rattle.translator.proofs.Fills.{none_filled, filled_more, filled-append}
-use Rattle.translator.proofs.Repeats.{repeat-on, repeat_fault, repeat-done, chain, stop}
+use Rattle.translator.proofs.Repeats.{repeat_on, repeat_fault, repeat_done, chain, stop}
 
 -- the lines of an operator, one after the other
 pub operator_read : (unit : Bool) (sizes : List ℕ) (room : ℕ) (p : Place) {q₁ q₂ q₃ q₄ q₅ q₆ : Place} {name : Text} {s t : List Condition × List Bool} {prevail cost : ℕ} {seen : List Bool} → keyword (codes "begin_operator") p ≡ Ok (tt, q₁) → text_line q₁ ≡ Ok (name, q₂) → conditions_section Fact sizes room none_seen q₂ ≡ Ok (s, q₃) → length s.0 ≡ prevail → s.1 ≡ seen → conditions_section Effect sizes (room - prevail) seen q₃ ≡ Ok (t, q₄) → cost_line unit q₄ ≡ Ok (cost, q₅) → keyword (codes "end_operator") q₅ ≡ Ok (tt, q₆) → operator_section unit sizes room p ≡ Ok (record { name = name; prevail = s.0; effects = t.0; cost = cost }, q₆)
@@ -73,8 +73,8 @@ none_yet f h =
 
 module _ {f : Frame} {i : ℕ} {p : Place} {operators : List Operator} {table : List Condition} {used : ℕ} {os : List DescribedOperator} (so : Sofar f i p operators table used os) (same_length : length table ≡ length f.table) where
   -- the room that the program has left is the one that the definition gives
-  room-left : length table - used ≡ length f.table - f.first - length (all_conditions os)
-  room-left = omega (arith, so.filled_up.ends)
+  room_left : length table - used ≡ length f.table - f.first - length (all_conditions os)
+  room_left = omega (arith, so.filled_up.ends)
 
   pub one_more : i < f.count → (o : DescribedOperator) (r : Operator) (q : Place) → operator_section f.unit f.sizes (length table - used) p ≡ Ok (o, q) → (table' : List Condition) → OperatorFilled used f.write table table' r o → used + r.count ≤ length table → (operators' : List Operator) → operators' ≡ cond f.write (set operators i r) operators → Sofar f (i + 1) q operators' table' (used + r.count) (os ++ o ∷ [])
   one_more h o r q reads table' there within operators' stored =
@@ -83,7 +83,7 @@ module _ {f : Frame} {i : ℕ} {p : Place} {operators : List Operator} {table : 
       let more : length (all_conditions (os ++ o ∷ [])) ≡ length (all_conditions os) + length (conditions_in o) = ap length (all_conditions-push os o) ∙ length-append (all_conditions os) (conditions_in o) in
       let place : i ≡ 0 + length (operator_records f.first os) = omega (arith, so.filled_up.long, length-operator_records f.first os) in
       record {
-        on = repeat-on (step f) f.count i os p _ h so.on (os ++ o ∷ []) q (chain _ (subst (λ k. operator_section f.unit f.sizes k p ≡ Ok (o, q)) room-left reads) refl);
+        on = repeat_on (step f) f.count i os p _ h so.on (os ++ o ∷ []) q (chain _ (subst (λ k. operator_section f.unit f.sizes k p ≡ Ok (o, q)) room_left reads) refl);
         filled_up =
             record {
               long = length_push os o ∙ ap (λ k. k + 1) so.filled_up.long;
@@ -100,8 +100,8 @@ module _ {f : Frame} {i : ℕ} {p : Place} {operators : List Operator} {table : 
             };
       }
 
-  pub operator-fault : i < f.count → (e : Fault) → operator_section f.unit f.sizes (length table - used) p ≡ Err e → whole f ≡ Err e
-  operator-fault h e reads = repeat_fault (step f) f.count i os p _ h so.on e (stop _ (subst (λ k. operator_section f.unit f.sizes k p ≡ Err e) room-left reads))
+  pub operator_fault : i < f.count → (e : Fault) → operator_section f.unit f.sizes (length table - used) p ≡ Err e → whole f ≡ Err e
+  operator_fault h e reads = repeat_fault (step f) f.count i os p _ h so.on e (stop _ (subst (λ k. operator_section f.unit f.sizes k p ≡ Err e) room_left reads))
 
-  pub operators-done : i ≡ f.count → (whole f ≡ Ok (os, p)) × OperatorsFilled f.count f.first f.write f.operators operators f.table table used os
-  operators-done e = (repeat-done (step f) f.count i os p _ (omega arith) so.on, subst (λ n. OperatorsFilled n f.first f.write f.operators operators f.table table used os) e so.filled_up)
+  pub operators_done : i ≡ f.count → (whole f ≡ Ok (os, p)) × OperatorsFilled f.count f.first f.write f.operators operators f.table table used os
+  operators_done e = (repeat_done (step f) f.count i os p _ (omega arith) so.on, subst (λ n. OperatorsFilled n f.first f.write f.operators operators f.table table used os) e so.filled_up)

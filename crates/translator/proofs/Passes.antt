@@ -20,8 +20,8 @@ described_is : (room : Room) (bs : List ℕ) (p : Place) (d : Read Description) 
 described_is room bs p d h start e = cond-false (ltb 65536 (length bs)) _ _ (le-ltb 65536 (length bs) h) ∙ ap (λ q. without_place (whole_file room q)) (sym start) ∙ ap without_place e
 
 module _ (bs : List ℕ) (small : length bs ≤ 65536) (vs vs' : List Variable) (os os' : List Operator) (cs cs' : List Condition) (p₁ p₂ q₁ q₂ : Place) (start₁ : p₁ ≡ opening bs) (start₂ : p₂ ≡ opening bs) (d₁ : Description) (first : whole_file (room_in vs os cs) p₁ ≡ Ok (d₁, q₁)) where
-  second-taken : (r : Result Reading Fault) → Finds (λ d u. FileFilled true vs vs' os os' cs cs' u d) (whole_file (room_in vs os cs) p₂) r q₂ → Taken bs vs vs' os os' cs cs' r
-  second-taken (Ok used) h =
+  second_taken : (r : Result Reading Fault) → Finds (λ d u. FileFilled true vs vs' os os' cs cs' u d) (whole_file (room_in vs os cs) p₂) r q₂ → Taken bs vs vs' os os' cs cs' r
+  second_taken (Ok used) h =
       let d = h.0 in
       let f = h.2 in (
         d,
@@ -33,13 +33,13 @@ module _ (bs : List ℕ) (small : length bs ≤ 65536) (vs vs' : List Variable) 
           conditions_hold = f.conditions_laid ∙ put_first cs (d.goal ++ all_conditions d.operators) f.conditions_fit;
         },
       )
-  second-taken (Err f) h = absurd (never _ (described_is (room_in vs os cs) bs p₁ (Ok (d₁, q₁)) small start₁ first) (described_is (room_in vs os cs) bs p₂ (Err f) small start₂ h))
+  second_taken (Err f) h = absurd (never _ (described_is (room_in vs os cs) bs p₁ (Ok (d₁, q₁)) small start₁ first) (described_is (room_in vs os cs) bs p₂ (Err f) small start₂ h))
     where
       never : (r : Result Description Fault) → r ≡ Ok d₁ → r ≡ Err f → ⊥
       never r e g = let z : ◌≡◌ {A = ℕ} 0 1 = cc in omega arith
 
-  pub passes-taken : (vs₁ : List Variable) (os₁ : List Operator) (cs₁ : List Condition) → vs₁ ≡ vs → os₁ ≡ os → cs₁ ≡ cs → (r : Result Reading Fault) → Finds (λ d u. FileFilled true vs₁ vs' os₁ os' cs₁ cs' u d) (whole_file (room_in vs₁ os₁ cs₁) p₂) r q₂ → Taken bs vs vs' os os' cs cs' r
-  passes-taken vs₁ os₁ cs₁ ev eo ec r h =
+  pub passes_taken : (vs₁ : List Variable) (os₁ : List Operator) (cs₁ : List Condition) → vs₁ ≡ vs → os₁ ≡ os → cs₁ ≡ cs → (r : Result Reading Fault) → Finds (λ d u. FileFilled true vs₁ vs' os₁ os' cs₁ cs' u d) (whole_file (room_in vs₁ os₁ cs₁) p₂) r q₂ → Taken bs vs vs' os os' cs cs' r
+  passes_taken vs₁ os₁ cs₁ ev eo ec r h =
       let h₁ = subst (λ x. Finds (λ d u. FileFilled true x vs' os₁ os' cs₁ cs' u d) (whole_file (room_in x os₁ cs₁) p₂) r q₂) ev h in
       let h₂ = subst (λ x. Finds (λ d u. FileFilled true vs vs' x os' cs₁ cs' u d) (whole_file (room_in vs x cs₁) p₂) r q₂) eo h₁ in
-      second-taken r (subst (λ x. Finds (λ d u. FileFilled true vs vs' os os' x cs' u d) (whole_file (room_in vs os x) p₂) r q₂) ec h₂)
+      second_taken r (subst (λ x. Finds (λ d u. FileFilled true vs vs' os os' x cs' u d) (whole_file (room_in vs os x) p₂) r q₂) ec h₂)

@@ -40,5 +40,5 @@ module _ (bs : List ℕ) (p n : ℕ) (more : p < n) where
             ∙ ap (λ b. cond b (cut (part bs (p + k + 1) (n - 1 - (p + k + 1)))) []) (sym (le-ltb (p + k + 1) n h))
 
     -- the first part that is left has k bytes, and the others follow it
-    pub left-more : cut (part bs p (n - 1 - p)) ≡ cut_at (part bs p (n - 1 - p)) k → left_of bs p n ≡ part bs p k ∷ left_of bs (p + k + 1) n
-    left-more e = left_cut ∙ e ∙ ap (λ w. w ∷ cond (ltb k (length (part bs p (n - 1 - p)))) (cut (drop (k + 1) (part bs p (n - 1 - p)))) []) front ∙ ap (λ ws. part bs p k ∷ ws) back
+    pub left_more : cut (part bs p (n - 1 - p)) ≡ cut_at (part bs p (n - 1 - p)) k → left_of bs p n ≡ part bs p k ∷ left_of bs (p + k + 1) n
+    left_more e = left_cut ∙ e ∙ ap (λ w. w ∷ cond (ltb k (length (part bs p (n - 1 - p)))) (cut (drop (k + 1) (part bs p (n - 1 - p)))) []) front ∙ ap (λ ws. part bs p k ∷ ws) back

@@ -6,22 +6,22 @@ use Rattle.translator.specs.Reads.{Read, and_then, Finds}
 use Rattle.translator.specs.Sections.{repeated}
 
 module _ {A : Type 0} (step : A → Place → Read A) (n i : ℕ) (a : A) (p : Place) where
-  repeat-step : i < n → repeated step (n - i) a p ≡ and_then (step a p) (repeated step (n - (i + 1)))
-  repeat-step h =
+  repeat_step : i < n → repeated step (n - i) a p ≡ and_then (step a p) (repeated step (n - (i + 1)))
+  repeat_step h =
       let e : n - i ≡ suc (n - (i + 1)) = omega arith in
       ap (λ k. repeated step k a p) e
 
   -- a step that answers takes the reading on
-  pub repeat-on : (d : Read A) → i < n → d ≡ repeated step (n - i) a p → (b : A) (q : Place) → step a p ≡ Ok (b, q) → d ≡ repeated step (n - (i + 1)) b q
-  repeat-on d h e b q s = e ∙ repeat-step h ∙ ap (λ x. and_then x (repeated step (n - (i + 1)))) s
+  pub repeat_on : (d : Read A) → i < n → d ≡ repeated step (n - i) a p → (b : A) (q : Place) → step a p ≡ Ok (b, q) → d ≡ repeated step (n - (i + 1)) b q
+  repeat_on d h e b q s = e ∙ repeat_step h ∙ ap (λ x. and_then x (repeated step (n - (i + 1)))) s
 
   -- a step that refuses is the whole reading's refusal
   pub repeat_fault : (d : Read A) → i < n → d ≡ repeated step (n - i) a p → (f : Fault) → step a p ≡ Err f → d ≡ Err f
-  repeat_fault d h e f s = e ∙ repeat-step h ∙ ap (λ x. and_then x (repeated step (n - (i + 1)))) s
+  repeat_fault d h e f s = e ∙ repeat_step h ∙ ap (λ x. and_then x (repeated step (n - (i + 1)))) s
 
   -- after the last step the reading answers what it has
-  pub repeat-done : (d : Read A) → n ≤ i → d ≡ repeated step (n - i) a p → d ≡ Ok (a, p)
-  repeat-done d h e =
+  pub repeat_done : (d : Read A) → n ≤ i → d ≡ repeated step (n - i) a p → d ≡ Ok (a, p)
+  repeat_done d h e =
       let z : n - i ≡ 0 = omega arith in
       e ∙ ap (λ k. repeated step k a p) z
 
@@ -30,23 +30,23 @@ abbrev pub Onward : {A : Type 0} → (A → Place → Read A) → ℕ → A → 
 Onward {A = A} step n a₀ p₀ i p = (a : A) × (repeated step n a₀ p₀ ≡ repeated step (n - i) a p)
 
 module _ {A : Type 0} (step : A → Place → Read A) (n : ℕ) (a₀ : A) (p₀ : Place) where
-  pub onward-start : Onward step n a₀ p₀ 0 p₀
-  onward-start = (a₀, ap (λ k. repeated step k a₀ p₀) (omega arith))
+  pub onward_start : Onward step n a₀ p₀ 0 p₀
+  onward_start = (a₀, ap (λ k. repeated step k a₀ p₀) (omega arith))
 
   module _ (i : ℕ) (p : Place) (so : Onward step n a₀ p₀ i p) where
-    pub onward-more : i < n → (q : Place) → ((a : A) → (b : A) × (step a p ≡ Ok (b, q))) → Onward step n a₀ p₀ (i + 1) q
-    onward-more h q s = let b = s so.0 in (b.0, repeat-on step n i so.0 p _ h so.1 b.0 q b.1)
+    pub onward_more : i < n → (q : Place) → ((a : A) → (b : A) × (step a p ≡ Ok (b, q))) → Onward step n a₀ p₀ (i + 1) q
+    onward_more h q s = let b = s so.0 in (b.0, repeat_on step n i so.0 p _ h so.1 b.0 q b.1)
 
-    pub onward-fault : i < n → (f : Fault) → ((a : A) → step a p ≡ Err f) → repeated step n a₀ p₀ ≡ Err f
-    onward-fault h f s = repeat_fault step n i so.0 p _ h so.1 f (s so.0)
+    pub onward_fault : i < n → (f : Fault) → ((a : A) → step a p ≡ Err f) → repeated step n a₀ p₀ ≡ Err f
+    onward_fault h f s = repeat_fault step n i so.0 p _ h so.1 f (s so.0)
 
-    pub onward-done : n ≤ i → (a : A) × (repeated step n a₀ p₀ ≡ Ok (a, p))
-    onward-done h = (so.0, repeat-done step n i so.0 p _ h so.1)
+    pub onward_done : n ≤ i → (a : A) × (repeated step n a₀ p₀ ≡ Ok (a, p))
+    onward_done h = (so.0, repeat_done step n i so.0 p _ h so.1)
 
 module _ {A V : Type 0} (K : A → V → Type 0) (d : Read A) (r : Result V Fault) (p : Place) (f : Fault) where
   -- the exit of a `?` that hands a fault on
-  pub finds-fault : IsErrAnd r (λ y. y ≡ f) → d ≡ Err f → Finds K d r p
-  finds-fault b e = go r b
+  pub finds_fault : IsErrAnd r (λ y. y ≡ f) → d ≡ Err f → Finds K d r p
+  finds_fault b e = go r b
     where
       go : (s : Result V Fault) → IsErrAnd s (λ y. y ≡ f) → Finds K d s p
       go (Ok v) h = absurd h

@@ -14,7 +14,7 @@ use Rattle.translator.specs.Sections.{repeated, variable_section, next_variable,
 use Rattle.translator.specs.Sound.{SoundSizes}
 use Rattle.translator.proofs.Fills.{none_filled, filled_more}
 use Rattle.translator.specs.Filled.{VariablesFilled}
-use Rattle.translator.proofs.Repeats.{repeat-on, repeat_fault, repeat-done, chain, stop}
+use Rattle.translator.proofs.Repeats.{repeat_on, repeat_fault, repeat_done, chain, stop}
 
 pub spanned-push : (ns : List ℕ) (n : ℕ) → spanned (ns ++ n ∷ []) ≡ spanned ns * n
 spanned-push [] n = mul_comm n 1
@@ -50,8 +50,8 @@ module _ (count : ℕ) (write : Bool) (table₀ : List Variable) (p₀ : Place) 
         let d : n ≤ 2 ^ 60 / span = omega arith in
         omega (arith, mul_comm span n, (le-div_iff_mul-le {k = span} {x = n} {y = 2 ^ 60} so.positive).0 d)
 
-    more-sizes : sizes_in (vs ++ v ∷ []) ≡ sizes_in vs ++ n ∷ []
-    more-sizes = map_push (λ (w : DescribedVariable). w.size) vs v ∙ ap (λ k. sizes_in vs ++ k ∷ []) is
+    more_sizes : sizes_in (vs ++ v ∷ []) ≡ sizes_in vs ++ n ∷ []
+    more_sizes = map_push (λ (w : DescribedVariable). w.size) vs v ∙ ap (λ k. sizes_in vs ++ k ∷ []) is
 
     place : i ≡ 0 + length (variable_records vs)
     place = omega (arith, so.long, length-map vs variable_record)
@@ -59,13 +59,13 @@ module _ (count : ℕ) (write : Bool) (table₀ : List Variable) (p₀ : Place) 
     pub one_more : i < count → count ≤ length sizes → (span' : ℕ) → span' ≡ span * n → (table' : List Variable) → table' ≡ cond write (set table i (record { size = n })) table → Sofar count write table₀ p₀ (i + 1) q (set sizes i n) span' table' (vs ++ v ∷ [])
     one_more h k span' wider table' stored =
         record {
-          on = repeat-on next_variable count i vs p _ h so.on (vs ++ v ∷ []) q (chain _ (subst (λ s. variable_section s p ≡ Ok (v, q)) so.spans reads) refl);
+          on = repeat_on next_variable count i vs p _ h so.on (vs ++ v ∷ []) q (chain _ (subst (λ s. variable_section s p ≡ Ok (v, q)) so.spans reads) refl);
           long = length_push vs v ∙ ap (λ k. k + 1) so.long;
-          sized = take_more_set sizes i n (omega arith) ∙ ap (λ ns. ns ++ n ∷ []) so.sized ∙ sym more-sizes;
-          spans = wider ∙ ap (λ m. m * n) so.spans ∙ sym (spanned-push (sizes_in vs) n) ∙ ap spanned (sym more-sizes);
+          sized = take_more_set sizes i n (omega arith) ∙ ap (λ ns. ns ++ n ∷ []) so.sized ∙ sym more_sizes;
+          spans = wider ∙ ap (λ m. m * n) so.spans ∙ sym (spanned-push (sizes_in vs) n) ∙ ap spanned (sym more_sizes);
           positive = subst (λ m. 1 ≤ m) (sym wider) (mul-le-mul so.positive low);
           narrow = subst (λ m. m ≤ 2 ^ 60) (sym wider) fits;
-          each = subst (Each (λ m. 1 ≤ m)) (sym more-sizes) (each_append (λ m. 1 ≤ m) (sizes_in vs) (n ∷ []) so.each (low, tt));
+          each = subst (Each (λ m. 1 ≤ m)) (sym more_sizes) (each_append (λ m. 1 ≤ m) (sizes_in vs) (n ∷ []) so.each (low, tt));
           laid = stored ∙ ap (λ k. cond write (set table i (record { size = k })) table) (sym is) ∙ ap (λ k. cond write (set table k (variable_record v)) table) place ∙ filled_more write table₀ table 0 (variable_records vs) (variable_record v) so.laid ∙ ap (filled write table₀ 0) (sym (map_push variable_record vs v));
         }
 
@@ -75,4 +75,4 @@ variable_fault {count} {write} {table₀} {p₀} {i} {p} {sizes} {span} {table} 
 
 pub variables_done : {count : ℕ} {write : Bool} {table₀ : List Variable} {p₀ : Place} {i : ℕ} {p : Place} {sizes : List ℕ} {span : ℕ} {table : List Variable} {vs : List DescribedVariable} → Sofar count write table₀ p₀ i p sizes span table vs → i ≡ count → (repeated next_variable count [] p₀ ≡ Ok (vs, p)) × VariablesFilled count write table₀ sizes table vs
 variables_done {count} {write} {table₀} {p₀} {i} {p} {sizes} {span} {table} {vs} so e =
-    (repeat-done next_variable count i vs p _ (omega arith) so.on, record { sized = subst (λ k. take k sizes ≡ sizes_in vs) e so.sized; laid = so.laid; sound = record { each = so.each; narrow = subst (λ m. m ≤ 2 ^ 60) so.spans so.narrow } })
+    (repeat_done next_variable count i vs p _ (omega arith) so.on, record { sized = subst (λ k. take k sizes ≡ sizes_in vs) e so.sized; laid = so.laid; sound = record { each = so.each; narrow = subst (λ m. m ≤ 2 ^ 60) so.spans so.narrow } })

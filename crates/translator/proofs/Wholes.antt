@@ -16,8 +16,8 @@ use Rattle.translator.proofs.Operators.{length-operator_records}
 use Rattle.translator.proofs.Repeats.{chain}
 
 module _ {write : Bool} {old new : List Operator} {before mid after : List Condition} {count goal used : ℕ} {cs : List Condition} {os : List DescribedOperator} (here : GoalFilled goal write before mid cs) (there : OperatorsFilled count goal write old new mid after used os) (few : count ≤ min (length old) 4096) (kept : length mid ≡ length before) where
-  pub rest-filled : RestFilled count used goal write old new before after (cs, os)
-  rest-filled =
+  pub rest_filled : RestFilled count used goal write old new before after (cs, os)
+  rest_filled =
       record {
         goal_long = here.long;
         long = there.long;

@@ -1,6 +1,6 @@
 use Rattle.std.proofs.Common.{arith}
 use Rattle.enumerate.specs.Lists.{plans_of}
-use Rattle.enumerate.proofs.Ways.{below_all, below_more, below-skips}
+use Rattle.enumerate.proofs.Ways.{below_all, below_more, below_skips}
 use Rattle.enumerate.proofs.+completions.Goals as goal
 use Rattle.enumerate.proofs.+completions.Goals.{then-cost-price+in-ok-tails+in-ok-append-led, else-cost-price}
 
@@ -25,7 +25,7 @@ pub loop-operator-preserved : goal.loop-operator-preserved
 loop-operator-preserved g t c =
     elim c.if-cost-price.branch [
       | then-cost-price+in-ok-tails+in-ok-append-led w ↦ simp (w.plans-is, w.in-ok-append-led.ensures, w.as-slice.ensures.value) (below_more (g.T.Task.meaning c.args.task.now) c.args.state c.args.price c.loop-operator.from c.in-Some.operator c.in-Some.target c.cost-cost.result c.in-Some.ensures c.cost-cost.ensures w.if-cost-price.true (plans_of c.loop-operator.plans) (plans_of w.in-ok-tails.tails) c.loop-operator.invariant w.in-ok-tails.ensures)
-      | else-cost-price w ↦ simp w.plans-is (below-skips (g.T.Task.meaning c.args.task.now) c.args.state c.args.price c.loop-operator.from c.in-Some.operator c.in-Some.target c.cost-cost.result c.in-Some.ensures c.cost-cost.ensures w.if-cost-price.false (plans_of c.loop-operator.plans) c.loop-operator.invariant)
+      | else-cost-price w ↦ simp w.plans-is (below_skips (g.T.Task.meaning c.args.task.now) c.args.state c.args.price c.loop-operator.from c.in-Some.operator c.in-Some.target c.cost-cost.result c.in-Some.ensures c.cost-cost.ensures w.if-cost-price.false (plans_of c.loop-operator.plans) c.loop-operator.invariant)
     ]
 
 pub returns : goal.returns

@@ -1,12 +1,12 @@
 use Rattle.std.proofs.Common.{length, sym, arith}
 use Rattle.chart.specs.Faults.{goal_aware}
 use Rattle.task.specs.declared.faults.Kind.TheVariants.{EstimateLaw}
-use Rattle.chart.proofs.Firsts.{answer-first, answer-none}
+use Rattle.chart.proofs.Firsts.{answer_first, answer_none}
 use Rattle.chart.proofs.checks.check_goals.Goals as goal
 
 pub returns-then-not-is-aware : goal.returns-then-not-is-aware
 returns-then-not-is-aware c =
-    answer-first (λ k. goal_aware c.args.goals.now c.args.estimates.now k) EstimateLaw (length c.args.goals.now) c.loop-i.i c.chart.result (omega arith) c.loop-i.invariant (sym c.if-not-is-aware.ensures) c.chart.ensures
+    answer_first (λ k. goal_aware c.args.goals.now c.args.estimates.now k) EstimateLaw (length c.args.goals.now) c.loop-i.i c.chart.result (omega arith) c.loop-i.invariant (sym c.if-not-is-aware.ensures) c.chart.ensures
 
 pub returns : goal.returns
-returns c = answer-none (λ k. goal_aware c.args.goals.now c.args.estimates.now k) EstimateLaw (length c.args.goals.now) (λ k l. c.loop-i.invariant k (omega arith))
+returns c = answer_none (λ k. goal_aware c.args.goals.now c.args.estimates.now k) EstimateLaw (length c.args.goals.now) (λ k l. c.loop-i.invariant k (omega arith))

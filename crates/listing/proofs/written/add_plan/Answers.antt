@@ -1,15 +1,15 @@
 use Rattle.std.proofs.Common.{ap, ◌∙◌}
 use Rattle.listing.specs.Outcome.{Written}
 use Rattle.listing.proofs.Lines.{front_of}
-use Rattle.listing.proofs.Plans.{answer_length, added-ok, added-err}
+use Rattle.listing.proofs.Plans.{answer_length, added_ok, added_err}
 use Rattle.listing.proofs.written.add_plan.Goals as goal
 
 pub returns-in-ok-extend-from-slice : goal.returns-in-ok-extend-from-slice
 returns-in-ok-extend-from-slice g c =
     let told = c.in-Ok.ensures in
-    added-ok _ _ _ _ _ _ _ c.requires _ told.answers c.in-ok-extend-from-slice.ensures.items (front_of _ _ _ _ (answer_length (g.T.Task.meaning c.args.task.now) (g.T.NamedTask.names c.args.task.now) c.args.steps.now _ _ told.answers) told.buffer)
+    added_ok _ _ _ _ _ _ _ c.requires _ told.answers c.in-ok-extend-from-slice.ensures.items (front_of _ _ _ _ (answer_length (g.T.Task.meaning c.args.task.now) (g.T.NamedTask.names c.args.task.now) c.args.steps.now _ _ told.answers) told.buffer)
 
 pub returns-in-ok-extend-from-slice-2 : goal.returns-in-ok-extend-from-slice-2
 returns-in-ok-extend-from-slice-2 g c =
     let told = c.in-Err.ensures in
-    added-err _ _ _ _ _ _ _ c.requires _ told.answers c.in-ok-extend-from-slice-2.ensures.items (c.deref.ensures.value ∙ ap (λ (w : Written). w.0) c.in-ok-line.ensures)
+    added_err _ _ _ _ _ _ _ c.requires _ told.answers c.in-ok-extend-from-slice-2.ensures.items (c.deref.ensures.value ∙ ap (λ (w : Written). w.0) c.in-ok-line.ensures)

@@ -3,7 +3,7 @@ use Rattle.std.proofs.str.Laws.{order}
 use Rattle.sas.specs.Scans.{Placed}
 use Rattle.sas.specs.Values.{Within}
 use Rattle.task.proofs.Members.{each_at}
-use Rattle.sas.proofs.Scanned.{acts-there, acts_past, before_more}
+use Rattle.sas.proofs.Scanned.{acts_there, acts_past, before_more}
 use Rattle.sas.proofs.Walks.{no_operator}
 use Rattle.sas.proofs.moves.first_acting.Goals as goal
 
@@ -17,11 +17,11 @@ holds-requires c =
 
 pub returns-then-holds : goal.returns-then-holds
 returns-then-holds c =
-    (c.loop-at.invariant.0, omega arith, acts-there c.args.conditions.now c.args.operators.now c.loop-at.at (omega arith) _ c.conditions-of.ensures c.args.values.now true c.if-holds.ensures, c.loop-at.invariant.1)
+    (c.loop-at.invariant.0, omega arith, acts_there c.args.conditions.now c.args.operators.now c.loop-at.at (omega arith) _ c.conditions-of.ensures c.args.values.now true c.if-holds.ensures, c.loop-at.invariant.1)
 
 pub loop-at-preserved : goal.loop-at-preserved
 loop-at-preserved c =
-    (omega arith, before_more _ c.args.from c.loop-at.at c.loop-at.invariant.1 (acts-there c.args.conditions.now c.args.operators.now c.loop-at.at (omega arith) _ c.conditions-of.ensures c.args.values.now false c.if-holds.ensures))
+    (omega arith, before_more _ c.args.from c.loop-at.at c.loop-at.invariant.1 (acts_there c.args.conditions.now c.args.operators.now c.loop-at.at (omega arith) _ c.conditions-of.ensures c.args.values.now false c.if-holds.ensures))
 
 pub returns : goal.returns
 returns c o h =

@@ -2,18 +2,18 @@ use Rattle.std.proofs.Common.{sym, refl, ◌∙◌, arith}
 use Rattle.std.proofs.lemmas.List.{at_drop_all}
 use Rattle.sas.specs.Checks.{each, condition_fits}
 use Rattle.sas.specs.Values.{sizes}
-use Rattle.sas.proofs.Tested.{passes-more, passes-not}
+use Rattle.sas.proofs.Tested.{passes_more, passes_not}
 use Rattle.sas.proofs.Walks.{no_condition}
 use Rattle.sas.proofs.range.conditions_in_range.Goals as goal
 
 pub returns-then-not-condition-in-range : goal.returns-then-not-condition-in-range
 returns-then-not-condition-in-range c =
-    sym (passes-not (each (condition_fits (sizes c.args.variables.now))) (condition_fits (sizes c.args.variables.now)) (λ _ _. refl) c.args.conditions.now c.loop-i.i no_condition (omega arith) (sym c.if-not-condition-in-range.ensures))
+    sym (passes_not (each (condition_fits (sizes c.args.variables.now))) (condition_fits (sizes c.args.variables.now)) (λ _ _. refl) c.args.conditions.now c.loop-i.i no_condition (omega arith) (sym c.if-not-condition-in-range.ensures))
     ∙ c.loop-i.invariant
 
 pub loop-i-preserved : goal.loop-i-preserved
 loop-i-preserved c =
-    sym (passes-more (each (condition_fits (sizes c.args.variables.now))) (condition_fits (sizes c.args.variables.now)) (λ _ _. refl) c.args.conditions.now c.loop-i.i no_condition (omega arith) (sym c.if-not-condition-in-range.ensures))
+    sym (passes_more (each (condition_fits (sizes c.args.variables.now))) (condition_fits (sizes c.args.variables.now)) (λ _ _. refl) c.args.conditions.now c.loop-i.i no_condition (omega arith) (sym c.if-not-condition-in-range.ensures))
     ∙ c.loop-i.invariant
 
 pub returns : goal.returns

@@ -1,5 +1,5 @@
 use Rattle.std.proofs.Common.{arith}
-use Rattle.sas.proofs.Walks.{same_length, number-below, weight-below, left-more, left_all, left_none}
+use Rattle.sas.proofs.Walks.{same_length, number_below, weight_below, left_more, left_all, left_none}
 use Rattle.sas.proofs.values.number.Goals as goal
 
 pub loop-i-init : goal.loop-i-init
@@ -9,16 +9,16 @@ pub bounds-values-i : goal.bounds-values-i
 bounds-values-i c = omega (arith, same_length c.args.variables.now c.args.values.now c.requires.below)
 
 pub overflow-mul-number : goal.overflow-mul-number
-overflow-mul-number c = let h = number-below c.args.variables.now c.args.values.now c.requires.below c.loop-i.i c.loop-i.number c.loop-i.weight (omega arith) c.loop-i.invariant in omega arith
+overflow-mul-number c = let h = number_below c.args.variables.now c.args.values.now c.requires.below c.loop-i.i c.loop-i.number c.loop-i.weight (omega arith) c.loop-i.invariant in omega arith
 
 pub overflow-add-number : goal.overflow-add-number
-overflow-add-number c = let h = number-below c.args.variables.now c.args.values.now c.requires.below c.loop-i.i c.loop-i.number c.loop-i.weight (omega arith) c.loop-i.invariant in omega arith
+overflow-add-number c = let h = number_below c.args.variables.now c.args.values.now c.requires.below c.loop-i.i c.loop-i.number c.loop-i.weight (omega arith) c.loop-i.invariant in omega arith
 
 pub overflow-mul-weight : goal.overflow-mul-weight
-overflow-mul-weight c = let h = weight-below c.args.variables.now c.args.values.now c.requires.below c.loop-i.i c.loop-i.number c.loop-i.weight (omega arith) c.loop-i.invariant in omega arith
+overflow-mul-weight c = let h = weight_below c.args.variables.now c.args.values.now c.requires.below c.loop-i.i c.loop-i.number c.loop-i.weight (omega arith) c.loop-i.invariant in omega arith
 
 pub loop-i-preserved : goal.loop-i-preserved
-loop-i-preserved c = left-more c.args.variables.now c.args.values.now c.requires.below c.loop-i.i c.loop-i.number c.loop-i.weight (omega arith) c.loop-i.invariant
+loop-i-preserved c = left_more c.args.variables.now c.args.values.now c.requires.below c.loop-i.i c.loop-i.number c.loop-i.weight (omega arith) c.loop-i.invariant
 
 pub returns : goal.returns
 returns c = left_all c.args.variables.now c.args.values.now c.loop-i.i c.loop-i.number c.loop-i.weight (omega arith) c.loop-i.invariant

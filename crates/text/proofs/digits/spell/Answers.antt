@@ -1,6 +1,6 @@
 use Rattle.std.proofs.Common.{◌≡◌, ◌+◌, ◌-◌, ◌++◌, decimal, sym, ap, ◌∙◌, arith}
 use Rattle.std.proofs.lemmas.List.{append-nil, drop_all, length-set}
-use Rattle.text.proofs.Figures.{all-written, fewer_digits, last_written, some_place}
+use Rattle.text.proofs.Figures.{all_written, fewer_digits, last_written, some_place}
 use Rattle.text.proofs.digits.spell.Goals as goal
 
 pub loop-rest-init : goal.loop-rest-init
@@ -20,5 +20,5 @@ pub returns : goal.returns
 returns c =
     record {
       begins = omega arith;
-      spelled = all-written (decimal c.args.n) c.loop-rest.digits c.loop-rest.rest c.loop-rest.from (omega arith) c.loop-rest.invariant.4 (omega arith);
+      spelled = all_written (decimal c.args.n) c.loop-rest.digits c.loop-rest.rest c.loop-rest.from (omega arith) c.loop-rest.invariant.4 (omega arith);
     }

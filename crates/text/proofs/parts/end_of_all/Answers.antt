@@ -1,8 +1,8 @@
 use Rattle.std.proofs.Common.{ap, ◌∙◌, arith}
 use Rattle.std.proofs.lemmas.Result.{err_from_is_err_and}
 use Rattle.text.specs.Buffer.{fit}
-use Rattle.text.proofs.Fits.{ok-from-fit, fit-within, fit-longer}
-use Rattle.text.proofs.Places.{come-all, come-more, come_none, come-within}
+use Rattle.text.proofs.Fits.{ok_from_fit, fit_within, fit_longer}
+use Rattle.text.proofs.Places.{come_all, come_more, come_none, come_within}
 use Rattle.text.proofs.parts.end_of_all.Goals as goal
 
 pub loop-part-init : goal.loop-part-init
@@ -11,13 +11,13 @@ loop-part-init c = (come_none _ c.args.parts.now c.args.at, c.requires)
 pub returns-in-err-end : goal.returns-in-err-end
 returns-in-err-end c =
     let p = err_from_is_err_and c.from-residual.result c.from-residual.ensures.1 in
-    rw (p.1, p.2) (fit-longer _ _ _ _ (come-within c.loop-part.invariant.0 _ c.loop-part-test.true) c.in-err-end.ensures)
+    rw (p.1, p.2) (fit_longer _ _ _ _ (come_within c.loop-part.invariant.0 _ c.loop-part-test.true) c.in-err-end.ensures)
 
 pub loop-part-preserved : goal.loop-part-preserved
 loop-part-preserved c =
-    let p = ok-from-fit _ _ _ c.in-ok-end.ensures in
-    (come-more c.loop-part.invariant.0 _ _ c.loop-part-test.true p.0, omega arith)
+    let p = ok_from_fit _ _ _ c.in-ok-end.ensures in
+    (come_more c.loop-part.invariant.0 _ _ c.loop-part-test.true p.0, omega arith)
 
 pub returns : goal.returns
 returns c =
-    fit-within _ _ c.loop-part.invariant.1 ∙ ap (λ n. fit c.args.room n) (come-all c.loop-part.invariant.0 c.loop-part-test.false)
+    fit_within _ _ c.loop-part.invariant.1 ∙ ap (λ n. fit c.args.room n) (come_all c.loop-part.invariant.0 c.loop-part-test.false)

@@ -2,7 +2,7 @@ use Rattle.std.proofs.Common.{◌≡◌, ◌+◌, ◌≤◌, ◌++◌, length, O
 use Rattle.std.proofs.lemmas.Result.{err_from_is_err_and}
 use Rattle.text.specs.Buffer.{pieces}
 use Rattle.text.specs.PlanText.{step_lines}
-use Rattle.text.proofs.Fits.{ok-from-fit, fit-within, fit-longer}
+use Rattle.text.proofs.Fits.{ok_from_fit, fit_within, fit_longer}
 use Rattle.text.proofs.Places.{placed_behind}
 use Rattle.text.proofs.plan.write_lines.Goals as goal
 
@@ -12,7 +12,7 @@ returns-in-err-end g c =
     let lines = step_lines (g.T.NamedTask.names c.args.task.now) c.args.steps.now in
     let last = pieces c.args.last.now in
     record {
-      answers = rw (p.1, p.2) (fit-longer _ (length lines) _ (length (lines ++ last)) (omega (arith, length-append lines last)) c.in-err-end.ensures);
+      answers = rw (p.1, p.2) (fit_longer _ (length lines) _ (length (lines ++ last)) (omega (arith, length-append lines last)) c.in-err-end.ensures);
       buffer = rw p.1;
     }
 
@@ -21,9 +21,9 @@ returns-in-err-end-of-all g c =
     let p = err_from_is_err_and c.from-residual-in-err-end-of-all.result c.from-residual-in-err-end-of-all.ensures.1 in
     let lines = step_lines (g.T.NamedTask.names c.args.task.now) c.args.steps.now in
     let last = pieces c.args.last.now in
-    let e = ok-from-fit _ (length lines) _ c.in-ok-end.ensures in
+    let e = ok_from_fit _ (length lines) _ c.in-ok-end.ensures in
     record {
-      answers = rw (p.1, p.2) (fit-longer _ (c.in-ok-end.end + length last) _ (length (lines ++ last)) (omega (arith, length-append lines last, e)) c.in-err-end-of-all.ensures);
+      answers = rw (p.1, p.2) (fit_longer _ (c.in-ok-end.end + length last) _ (length (lines ++ last)) (omega (arith, length-append lines last, e)) c.in-err-end-of-all.ensures);
       buffer = rw p.1;
     }
 
@@ -32,11 +32,11 @@ returns g c =
     let lines = step_lines (g.T.NamedTask.names c.args.task.now) c.args.steps.now in
     let last = pieces c.args.last.now in
     let room = length c.args.text.now in
-    let e = ok-from-fit room (length lines) _ c.in-ok-end.ensures in
-    let f = ok-from-fit room (c.in-ok-end.end + length last) _ c.in-ok-end-of-all.ensures in
+    let e = ok_from_fit room (length lines) _ c.in-ok-end.ensures in
+    let f = ok_from_fit room (c.in-ok-end.end + length last) _ c.in-ok-end-of-all.ensures in
     let whole : c.put-all.result ≡ length (lines ++ last) = omega (arith, length-append lines last, c.put-all.ensures.end) in
     let fits : length (lines ++ last) ≤ room = omega (arith, length-append lines last) in
     record {
-      answers = ap Ok whole ∙ fit-within room (length (lines ++ last)) fits;
+      answers = ap Ok whole ∙ fit_within room (length (lines ++ last)) fits;
       buffer = c.put-all.ensures.after ∙ placed_behind c.args.text.now c.put-steps.new.text lines last c.in-ok-end.end c.put-all.result c.put-steps.ensures e.0 whole;
     }

@@ -2,11 +2,11 @@ use Rattle.std.proofs.Common.{◌≡◌, ℕ, List, get_or, drop, Some, None, Op
 use Rattle.std.proofs.lemmas.Bool.{cond-true, cond-false}
 use Rattle.std.proofs.lemmas.Bool.Decides.{nat_tests}
 use Rattle.translator.specs.Numerals.{well_begun, number_in, Decimal}
-use Rattle.translator.proofs.Digits.{number-in-decimal}
+use Rattle.translator.proofs.Digits.{number_in_decimal}
 use Rattle.translator.proofs.numerals.numeral.Goals as goal
 
 both : (ds : List ℕ) (r : Option ℕ) → r ≡ number_in ds → record { value : r ≡ number_in ds; decimal : Decimal ds r }
-both ds r e = record { value = e; decimal = subst (Decimal ds) (sym e) (number-in-decimal ds) }
+both ds r e = record { value = e; decimal = subst (Decimal ds) (sym e) (number_in_decimal ds) }
 
 pub returns-then-is-empty : goal.returns-then-is-empty
 returns-then-is-empty c = both c.args.digits.now None (grind (arith, nat_tests))

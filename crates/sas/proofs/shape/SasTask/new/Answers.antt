@@ -1,5 +1,5 @@
-use Rattle.sas.proofs.Makes.{made-of-tables}
+use Rattle.sas.proofs.Makes.{made_of_tables}
 use Rattle.sas.proofs.shape.SasTask.new.Goals as goal
 
 pub returns : goal.returns
-returns c = made-of-tables _
+returns c = made_of_tables _

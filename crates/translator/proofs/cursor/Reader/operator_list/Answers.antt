@@ -2,8 +2,8 @@ use Rattle.std.proofs.Common.{◌∙◌, arith}
 use Rattle.translator.specs.Description.{all_conditions}
 use Rattle.translator.specs.Filling.{operator_records}
 use Rattle.translator.proofs.Fills.{unfilled}
-use Rattle.translator.proofs.Operators.{none_yet, one_more, operator-fault, operators-done}
-use Rattle.translator.proofs.Repeats.{finds-fault}
+use Rattle.translator.proofs.Operators.{none_yet, one_more, operator_fault, operators_done}
+use Rattle.translator.proofs.Repeats.{finds_fault}
 use Rattle.translator.proofs.cursor.Reader.operator_list.Goals as goal
 
 pub loop-at-init : goal.loop-at-init
@@ -15,7 +15,7 @@ returns-in-err-operator c =
     let told = c.in-err-operator.ensures in
     let os = c.loop-at.invariant.0 in
     record {
-      tells = finds-fault _ _ _ _ c.in-err-operator.field-0.0 c.from-residual.ensures.1 (operator-fault so (omega arith) c.loop-at-test.true _ told.tells);
+      tells = finds_fault _ _ _ _ c.in-err-operator.field-0.0 c.from-residual.ensures.1 (operator_fault so (omega arith) c.loop-at-test.true _ told.tells);
       same = unfilled c.args.write _ _ 0 (operator_records c.args.first os) so.filled_up.laid;
       table_same = λ e. told.same e ∙ unfilled c.args.write _ _ c.args.first (all_conditions os) so.filled_up.conditions e;
     }
@@ -26,7 +26,7 @@ loop-at-preserved c = let told = c.in-ok-operator.ensures in (_, one_more c.loop
 pub returns : goal.returns
 returns c =
     let so = c.loop-at.invariant.1 in
-    let done = operators-done so (omega arith) (omega arith) in
+    let done = operators_done so (omega arith) (omega arith) in
     let os = c.loop-at.invariant.0 in
     record {
       tells = (os, done.0, done.1);

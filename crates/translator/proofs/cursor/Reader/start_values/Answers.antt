@@ -1,13 +1,13 @@
 use Rattle.std.proofs.Common.{◌≡◌, ℕ, ◌+◌, ◌-◌, ◌*◌, ◌≤◌, get_or, sym, refl, ap, subst, arith}
-use Rattle.translator.proofs.Repeats.{finds-fault}
-use Rattle.translator.proofs.Starts.{fits, one_more, value-fault, values-done}
+use Rattle.translator.proofs.Repeats.{finds_fault}
+use Rattle.translator.proofs.Starts.{fits, one_more, value_fault, values_done}
 use Rattle.translator.proofs.cursor.Reader.start_values.Goals as goal
 use Rattle.translator.proofs.cursor.Reader.start_values.Goals.{In-ok-value}
 
 pub returns-in-err-value : goal.returns-in-err-value
 returns-in-err-value c =
     let so = c.loop-at.invariant.2 in
-    finds-fault _ _ _ _ c.in-err-value.field-0.0 c.from-residual.ensures.1 (value-fault _ _ so c.loop-at-test.true _ refl _ (rw c.saturating-sub.ensures at c.in-err-value.ensures.tells))
+    finds_fault _ _ _ _ c.in-err-value.field-0.0 c.from-residual.ensures.1 (value_fault _ _ so c.loop-at-test.true _ refl _ (rw c.saturating-sub.ensures at c.in-err-value.ensures.tells))
 
 -- the value read is one of the variable's
 small : (c : In-ok-value) → c.in-ok-value.value ≤ get_or c.args.sizes.now c.loop-at.at 0 - 1
@@ -37,5 +37,5 @@ loop-at-preserved c = (
 
 pub returns : goal.returns
 returns c =
-    let done = values-done _ _ c.loop-at.invariant.2 c.loop-at-test.false in
+    let done = values_done _ _ c.loop-at.invariant.2 c.loop-at-test.false in
     (c.loop-at.invariant.1, done.0, done.1)

@@ -3,7 +3,7 @@ use Rattle.translator.specs.Readers.{place_of}
 use Rattle.translator.specs.Sections.{next_variable}
 use Rattle.translator.proofs.Fills.{unfilled}
 use Rattle.translator.specs.Filling.{variable_records}
-use Rattle.translator.proofs.Repeats.{finds-fault}
+use Rattle.translator.proofs.Repeats.{finds_fault}
 use Rattle.translator.proofs.Sizes.{fits, one_more, variable_fault, variables_done}
 use Rattle.translator.proofs.cursor.Reader.variable_list.Goals as goal
 
@@ -11,7 +11,7 @@ pub returns-in-err-size : goal.returns-in-err-size
 returns-in-err-size c =
     let so = c.loop-at.invariant.1 in
     record {
-      tells = finds-fault _ _ _ _ c.in-err-size.field-0.0 c.from-residual.ensures.1 (variable_fault so _ c.in-err-size.ensures.tells c.loop-at-test.true);
+      tells = finds_fault _ _ _ _ c.in-err-size.field-0.0 c.from-residual.ensures.1 (variable_fault so _ c.in-err-size.ensures.tells c.loop-at-test.true);
       same = unfilled c.args.write _ _ 0 (variable_records c.loop-at.invariant.0) so.laid;
     }
 

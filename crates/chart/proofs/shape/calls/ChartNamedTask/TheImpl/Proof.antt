@@ -15,7 +15,7 @@ use denote.Triple.Table.{run_framed, widened}
 use Rattle.chart.specs.contracts.shape.Chart.{the_row}
 use Rattle.chart.specs.contracts.shape.calls.ChartNamedTask.TheImpl.{ghosts, dict}
 use Rattle.chart.specs.contracts.shape.calls.ChartTask.TheImpl.{ghosts as calls, dict as calls-dict}
-use Rattle.chart.proofs.Makes.{task-nameless}
+use Rattle.chart.proofs.Makes.{task_nameless}
 use Rattle.chart.proofs.shape.calls.ChartNamedTask.TheImpl.Statement.{statement}
 use Rattle.chart.proofs.shape.calls.ChartNamedTask.name.Met as name-met
 use Rattle.chart.proofs.shape.calls.ChartNamedTask.name.Symbol as name·symbol
@@ -36,7 +36,7 @@ bound γ w0 w1 κ M 𝓤 𝓛 𝓜 𝓡 =
     let a : NamedLft = record { mir = erased; lft = κ } in
     let A = 𝓛.A in
     record {
-      nameless = task-nameless;
+      nameless = task_nameless;
       name =
           let asked = name·asked.spec (the_row a) ghosts dict calls calls-dict 𝓛 𝓜.mem 𝓡.returns in
           let ended = name·asked.ended (the_row a) ghosts dict calls calls-dict in

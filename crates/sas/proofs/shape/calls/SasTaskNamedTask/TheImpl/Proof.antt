@@ -15,7 +15,7 @@ use denote.Triple.Table.{run_framed, widened}
 use Rattle.sas.specs.contracts.shape.SasTask.{the_row}
 use Rattle.sas.specs.contracts.shape.calls.SasTaskNamedTask.TheImpl.{ghosts, dict}
 use Rattle.sas.specs.contracts.shape.calls.SasTaskTask.TheImpl.{ghosts as calls, dict as calls-dict}
-use Rattle.sas.proofs.Makes.{task-nameless}
+use Rattle.sas.proofs.Makes.{task_nameless}
 use Rattle.sas.proofs.shape.calls.SasTaskNamedTask.TheImpl.Statement.{statement}
 use Rattle.sas.proofs.shape.calls.SasTaskNamedTask.name.Met as name-met
 use Rattle.sas.proofs.shape.calls.SasTaskNamedTask.name.Symbol as name·symbol
@@ -36,7 +36,7 @@ bound γ w0 w1 κ M 𝓤 𝓛 𝓜 𝓡 =
     let a : NamedLft = record { mir = erased; lft = κ } in
     let A = 𝓛.A in
     record {
-      nameless = task-nameless;
+      nameless = task_nameless;
       name =
           let asked = name·asked.spec (the_row a) ghosts dict calls calls-dict 𝓛 𝓜.mem 𝓡.returns in
           let ended = name·asked.ended (the_row a) ghosts dict calls calls-dict in

@@ -1,18 +1,18 @@
 use Rattle.std.proofs.Common.{sym, ◌∙◌, arith}
-use Rattle.sas.proofs.Answered.{name-made, name-within}
-use Rattle.sas.proofs.Makes.{task-nameless, no_more}
+use Rattle.sas.proofs.Answered.{name_made, name_within}
+use Rattle.sas.proofs.Makes.{task_nameless, no_more}
 use Rattle.sas.proofs.shape.calls.SasTaskNamedTask.name.Goals as goal
 use Rattle.sas.proofs.shape.calls.SasTaskNamedTask.name.Goals.{else-self-via-then-self+else-operator-self, else-self-via-else-self}
 
 pub name-of-requires : goal.name-of-requires
-name-of-requires c = name-within c.args.self.now c.if-self.true c.args.operator c.if-operator-self.true
+name-of-requires c = name_within c.args.self.now c.if-self.true c.args.operator c.if-operator-self.true
 
 pub returns-then-operator-self : goal.returns-then-operator-self
-returns-then-operator-self c = c.name-of.ensures ∙ name-made c.args.self.now c.if-self.true c.args.operator c.if-operator-self.true
+returns-then-operator-self c = c.name-of.ensures ∙ name_made c.args.self.now c.if-self.true c.args.operator c.if-operator-self.true
 
 pub returns-else-self : goal.returns-else-self
 returns-else-self c =
-    sym (task-nameless c.args.self.now c.args.operator (no_more c.args.self.now c.args.operator (λ m. elim c.else-self.branch [
+    sym (task_nameless c.args.self.now c.args.operator (no_more c.args.self.now c.args.operator (λ m. elim c.else-self.branch [
       | else-self-via-then-self+else-operator-self w ↦ w.if-operator-self.false
       | else-self-via-else-self w ↦ absurd (grind (arith, m, w.if-self.false))
     ])))

@@ -14,7 +14,7 @@ use denote.Triple.Spec.{triple_of}
 use denote.Triple.Table.{run_framed, widened}
 use Rattle.sas.specs.contracts.shape.SasTask.{the_row}
 use Rattle.sas.specs.contracts.shape.calls.SasTaskTask.TheImpl.{ghosts, dict}
-use Rattle.sas.proofs.Makes.{task-lawful}
+use Rattle.sas.proofs.Makes.{task_lawful}
 use Rattle.sas.proofs.shape.calls.SasTaskTask.TheImpl.Statement.{statement}
 use Rattle.sas.proofs.shape.calls.SasTaskTask.operators.Met as operators-met
 use Rattle.sas.proofs.shape.calls.SasTaskTask.operators.Symbol as operators·symbol
@@ -59,7 +59,7 @@ bound γ w0 w1 w2 w3 w4 w5 w6 w7 κ M 𝓤 𝓛 𝓜 𝓡 =
     let a : NamedLft = record { mir = erased; lft = κ } in
     let A = 𝓛.A in
     record {
-      lawful = task-lawful;
+      lawful = task_lawful;
       operators =
           let asked = operators·asked.spec (the_row a) ghosts dict 𝓛 𝓜.mem 𝓡.returns in
           let ended = operators·asked.ended (the_row a) ghosts dict in

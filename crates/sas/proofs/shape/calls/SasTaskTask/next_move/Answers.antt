@@ -1,4 +1,4 @@
-use Rattle.sas.proofs.Answered.{usable-made, few-made, each-fitted-made, led-made}
+use Rattle.sas.proofs.Answered.{usable_made, few_made, each_fitted_made, led_made}
 use Rattle.sas.proofs.Scanned.{first_moves}
 use Rattle.sas.specs.Meaning.{task_meaning}
 use Rattle.sas.proofs.shape.calls.SasTaskTask.next_move.Goals as goal
@@ -6,11 +6,11 @@ use Rattle.sas.proofs.shape.calls.SasTaskTask.next_move.Goals as goal
 pub first-move-requires : goal.first-move-requires
 first-move-requires c =
     record {
-      usable = usable-made c.args.self.now c.if-self.true _ c.used-variables.ensures;
-      few = few-made c.args.self.now c.if-self.true _ c.used-variables.ensures _ c.used-operators.ensures;
-      fitted = each-fitted-made c.args.self.now c.if-self.true _ c.used-variables.ensures _ c.used-operators.ensures;
+      usable = usable_made c.args.self.now c.if-self.true _ c.used-variables.ensures;
+      few = few_made c.args.self.now c.if-self.true _ c.used-variables.ensures _ c.used-operators.ensures;
+      fitted = each_fitted_made c.args.self.now c.if-self.true _ c.used-variables.ensures _ c.used-operators.ensures;
     }
 
 pub returns-then-state-self : goal.returns-then-state-self
 returns-then-state-self c =
-    first_moves (task_meaning c.args.self.now) c.args.state c.args.from _ (led-made c.args.self.now c.if-self.true _ c.used-variables.ensures _ c.used-operators.ensures c.args.state c.if-state-self.true) c.first-move.result c.first-move.ensures
+    first_moves (task_meaning c.args.self.now) c.args.state c.args.from _ (led_made c.args.self.now c.if-self.true _ c.used-variables.ensures _ c.used-operators.ensures c.args.state c.if-state-self.true) c.first-move.result c.first-move.ensures

@@ -1,5 +1,5 @@
-use Rattle.sas.proofs.Answered.{operators-made}
+use Rattle.sas.proofs.Answered.{operators_made}
 use Rattle.sas.proofs.shape.calls.SasTaskTask.operators.Goals as goal
 
 pub returns-then-self : goal.returns-then-self
-returns-then-self c = operators-made c.args.self.now c.if-self.true
+returns-then-self c = operators_made c.args.self.now c.if-self.true

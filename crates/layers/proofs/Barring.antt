@@ -1,40 +1,18 @@
 -- A task without one of its operators: the laws and the plans. Assumes nothing.
-use Rattle.std.proofs.Common.{◌≡◌, ℕ, Bool, true, false, eqb, List, [], ◌∷◌, Some, sym, refl, inl, inr, ⊎_elim, arith, ne_eqb}
+use Rattle.std.proofs.Common.{◌≡◌, ℕ, List, [], ◌∷◌, Some, sym, refl, inl, inr, ⊎_elim, arith, ne_eqb}
 use borrow.Author.Tests.{eqb-false}
 use Rattle.task.specs.Listing.{In}
-use Rattle.task.specs.Model.{Model, Lawful}
+use Rattle.task.specs.Model.{Model}
 use Rattle.task.specs.Plans.{follow}
 use Rattle.layers.specs.Theorems.{BarredPlans, BarredBeyond}
-use Rattle.layers.proofs.Following.{came_on, goes_on, used_below, same_price}
 use Rattle.layers.specs.Barred.{barred}
-
--- a move that is left is a move below, of another operator
-pub move_below : (m : Model) (o s p t : ℕ) → (barred o m).move s p ≡ Some t → (eqb p o ≡ false) × (m.move s p ≡ Some t)
-move_below m o s p t e = go (eqb p o) refl
-  where
-    go : (b : Bool) → eqb p o ≡ b → (eqb p o ≡ false) × (m.move s p ≡ Some t)
-    go true h = absurd (grind arith)
-    go false h = (h, grind arith)
+use Rattle.layers.specs.BarredLaws.{move_below}
+use Rattle.layers.specs.RequiredLaws.{came_on}
+use Rattle.layers.proofs.Following.{goes_on, used_below, same_price}
 
 -- a move below of another operator is left
 pub move_left : (m : Model) (o s p t : ℕ) → (p ≡ o → ⊥) → m.move s p ≡ Some t → (barred o m).move s p ≡ Some t
 move_left m o s p t n e = rw (ne_eqb p o n) e
-
--- the laws are kept
-pub barred_lawful : (o : ℕ) (m : Model) → Lawful m → Lawful (barred o m)
-barred_lawful o m l =
-    record {
-      few = l.few;
-      priced = l.priced;
-      unpriced = l.unpriced;
-      wide = l.wide;
-      starts = l.starts;
-      moves = λ s p t e. l.moves s p t (move_below m o s p t e).1;
-      inside = l.inside;
-      estimates = l.estimates;
-      aware = l.aware;
-      consistent = λ s p t e. l.consistent s p t (move_below m o s p t e).1;
-    }
 
 -- a way over the layer is a way below that does not use o
 pub way_below : (m : Model) (o s t : ℕ) (os : List ℕ) → follow (barred o m) s os ≡ Some t → (follow m s os ≡ Some t) × (In o os → ⊥)

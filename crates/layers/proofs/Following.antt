@@ -1,13 +1,9 @@
 -- Ways of one move and more, over what a task means. Assumes nothing.
-use Rattle.std.proofs.Common.{◌≡◌, ℕ, ◌<◌, List, [], ◌∷◌, Some, None, Option, refl, ⊎_elim, arith}
+use Rattle.std.proofs.Common.{◌≡◌, ℕ, ◌<◌, List, [], ◌∷◌, Some, Option, refl, ⊎_elim, arith}
 use Rattle.task.specs.Listing.{In}
 use Rattle.task.specs.Model.{Model, Lawful}
 use Rattle.task.specs.Plans.{then_on, follow, price}
-
--- where a way goes on, it has come to a state
-pub came_on : (x : Option ℕ) (f : ℕ → Option ℕ) (u : ℕ) → then_on x f ≡ Some u → (t : ℕ) × (x ≡ Some t) × (f t ≡ Some u)
-came_on None f u e = absurd (grind arith)
-came_on (Some t) f u e = (t, refl, e)
+use Rattle.layers.specs.RequiredLaws.{came_on}
 
 -- from a state that it has come to, a way goes on
 pub goes_on : (x : Option ℕ) (f : ℕ → Option ℕ) (t u : ℕ) → x ≡ Some t → f t ≡ Some u → then_on x f ≡ Some u

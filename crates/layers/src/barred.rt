@@ -2,6 +2,7 @@
 ghost use Rattle.std.specs.Prelude.{◌≡◌};
 ghost use Rattle.layers.specs.Barred.{barred};
 ghost use Rattle.layers.specs.Layers.{barred_meaning, barred_names};
+ghost use Rattle.layers.specs.BarredLaws.{barred_lawful};
 
 use task::{NamedTask, Task};
 
@@ -26,6 +27,8 @@ impl<'a, T: Task> Barred<'a, T> {
 
 impl<T: Task> Task for Barred<'_, T> {
     ghost meaning = { λ b. barred_meaning T.Task.meaning b };
+
+    ghost lawful = { λ b. barred_lawful b.operator (T.Task.meaning b.below.now) (T.Task.lawful b.below.now) };
 
     fn operators(&self) -> u32 {
         self.below.operators()
@@ -69,6 +72,8 @@ impl<T: Task> Task for Barred<'_, T> {
 
 impl<T: NamedTask> NamedTask for Barred<'_, T> {
     ghost names = { λ b. barred_names T.NamedTask.names b };
+
+    ghost nameless = { λ b. T.NamedTask.nameless b.below.now };
 
     fn name(&self, operator: u32) -> &[u8] {
         self.below.name(operator)

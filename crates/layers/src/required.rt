@@ -2,6 +2,7 @@
 ghost use Rattle.std.specs.Prelude.{◌≡◌, ◌+◌, ◌*◌, ◌^◌, ◌<◌, nat_le};
 ghost use Rattle.layers.specs.Layers.{required_check, required_made, required_meaning, required_names};
 ghost use Rattle.layers.specs.Required.{used_after};
+ghost use Rattle.layers.specs.RequiredLaws.{made_lawful, made_nameless};
 
 use task::{Fault, Kind, NamedTask, Task};
 
@@ -57,6 +58,8 @@ impl<'a, T: Task> Required<'a, T> {
 
 impl<T: Task> Task for Required<'_, T> {
     ghost meaning = { λ r. required_meaning T.Task.meaning r };
+
+    ghost lawful = { λ r. made_lawful r.operator (T.Task.meaning r.below.now) (T.Task.lawful r.below.now) };
 
     fn operators(&self) -> u32 {
         if doubles(self.below) {
@@ -125,6 +128,8 @@ impl<T: Task> Task for Required<'_, T> {
 
 impl<T: NamedTask> NamedTask for Required<'_, T> {
     ghost names = { λ r. required_names T.Task.meaning T.NamedTask.names r };
+
+    ghost nameless = { λ r. made_nameless r.operator (T.Task.meaning r.below.now) (T.NamedTask.names r.below.now) (T.NamedTask.nameless r.below.now) };
 
     fn name(&self, operator: u32) -> &[u8] {
         if doubles(self.below) {

@@ -6,7 +6,7 @@ use crate::tallies::Tally;
 
 // The value of a plan: the unit extended by its steps in order.
 pub fn value_of<Y: Tally>(tally: &Y, steps: &[u32]) -> Y::Value
-    ensures { result ≡ value_of (meaning tally.now) steps.now }
+    ensures { result ≡ value_of (Y.meaning tally.now) steps.now }
 {
     let mut value = tally.unit();
     for step in steps {
@@ -17,7 +17,7 @@ pub fn value_of<Y: Tally>(tally: &Y, steps: &[u32]) -> Y::Value
 
 // The join of all the values; none if there is no value.
 pub fn join_all<Y: Tally>(tally: &Y, values: &[Y::Value]) -> Option<Y::Value>
-    ensures { result ≡ joined (meaning tally.now) values.now }
+    ensures { result ≡ joined (Y.meaning tally.now) values.now }
 {
     let mut sum = None;
     for value in values {

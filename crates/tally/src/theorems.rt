@@ -8,8 +8,8 @@ use crate::tallies::Tally;
 
 // The join of a list of values depends neither on their order nor on bracketing, whatever the tally.
 pub fn joins_in_any_order<Y: Tally>(_tally: &Y) -> u8
-    ensures order { AnyOrder (meaning _tally.now) }
-    ensures parts { AnyParts (meaning _tally.now) }
+    ensures order { AnyOrder (Y.meaning _tally.now) }
+    ensures parts { AnyParts (Y.meaning _tally.now) }
 {
     0
 }

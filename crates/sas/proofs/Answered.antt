@@ -15,10 +15,9 @@ use Rattle.sas.specs.Values.{Within, sizes}
 use Rattle.sas.specs.Scans.{led, Usable, Fitted}
 use Rattle.sas.specs.Meaning.{tables_of, meaning_of, naming_of, task_meaning, task_names}
 use Rattle.task.proofs.Members.{each_from_at}
-use Rattle.sas.proofs.Acts.{operators_count, actions_count, sizes_sized, goal_fits, used_operator, operator_there, action_there, operator_fits_there, action_fits}
+use Rattle.sas.specs.Acts.{no_operator, operators_count, actions_count, sizes_sized, goal_fits, used_operator, operator_there, action_there, operator_fits_there, action_fits}
 use Rattle.sas.proofs.Scanned.{fits_within, led_moved}
-use Rattle.sas.proofs.Walks.{no_operator}
-use Rattle.sas.proofs.Makes.{made_in_range, made_spans}
+use Rattle.sas.specs.Makes.{made_in_range, made_spans}
 
 module _ (s : SasTask) (m : s.made ≡ true) where
   pub operators_made : s.used.operators ≡ (task_meaning s).operators

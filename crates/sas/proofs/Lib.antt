@@ -1,10 +1,5 @@
 pub mod Tested
-pub mod Assigned
 pub mod Walks
 pub mod Ranges
-pub mod Found
-pub mod Acts
-pub mod Lawful
 pub mod Scanned
-pub mod Makes
 pub mod Answered

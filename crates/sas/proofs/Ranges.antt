@@ -1,15 +1,16 @@
 -- What the tests of the range check say. Assumes nothing.
-use Rattle.std.proofs.Common.{◌≡◌, ℕ, ◌+◌, ◌*◌, ◌^◌, ◌<◌, ◌≤◌, Bool, true, false, cond, ◌&&◌, leb, List, [], ◌∷◌, length, get_or, drop, Some, None, Decides, sym, refl, ap, ◌∙◌, mul_assoc, mul-one, arith}
+use Rattle.std.proofs.Common.{◌≡◌, ℕ, ◌+◌, ◌*◌, ◌^◌, ◌<◌, ◌≤◌, Bool, true, false, cond, ◌&&◌, leb, List, [], ◌∷◌, length, get_or, drop, Some, None, sym, refl, ap, ◌∙◌, mul_assoc, mul-one, arith}
 use Rattle.std.proofs.lemmas.Nat.{mul-le}
 use Rattle.std.proofs.lemmas.List.{at_drop_more, at_drop_all, get_or-map, length-map}
-use Rattle.std.proofs.lemmas.Bool.{le-ltb, lt-ltb, lt-leb, le-leb, leb-true}
+use Rattle.std.proofs.lemmas.Bool.{le-ltb, lt-ltb, lt-leb, le-leb}
 use Rattle.std.proofs.lemmas.Bool.Decides.{Decides-and}
 use Rattle.sas.specs.declared.tables.Variable.{Variable}
 use Rattle.sas.specs.declared.tables.Condition.{Condition}
 use Rattle.sas.specs.States.{spanned}
 use Rattle.sas.specs.Checks.{each, size_fits, product, valid, condition_fits}
 use Rattle.sas.specs.Values.{Sized, sizes}
-use Rattle.sas.proofs.Assigned.{spanned_positive}
+use Rattle.sas.specs.Assigned.{spanned_positive}
+use Rattle.sas.specs.Found.{decides_size}
 use Rattle.sas.proofs.Walks.{no_variable}
 
 -- the condition is of a variable that is not there
@@ -30,12 +31,6 @@ size_small n h = ap (λ b. b && leb n 1000) (lt-leb 1 n h)
 
 pub size_large : (n : ℕ) → 1 ≤ n → 1000 < n → size_fits n ≡ false
 size_large n h k = ap (λ b. b && leb n 1000) (le-leb 1 n h) ∙ lt-leb n 1000 k
-
-pub decides_leb : (a b : ℕ) → Decides (leb a b) (a ≤ b)
-decides_leb a b = (leb-true a b, le-leb a b)
-
-pub decides_size : (n : ℕ) → Decides (size_fits n) ((1 ≤ n) × (n ≤ 1000))
-decides_size n = Decides-and (leb 1 n) (leb n 1000) (decides_leb 1 n) (decides_leb n 1000)
 
 pub sized_from_each : (ns : List ℕ) → each size_fits ns ≡ true → Sized ns
 sized_from_each [] e = tt

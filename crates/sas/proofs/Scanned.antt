@@ -1,8 +1,7 @@
 -- Conditions that fit, and one turn of the scan for an operator. Assumes nothing.
 use Rattle.std.proofs.Common.{◌≡◌, ℕ, zero, suc, ◌+◌, ◌<◌, ◌≤◌, Bool, true, false, cond, ◌&&◌, List, [], ◌∷◌, map, length, get_or, Some, None, Option, sym, refl, ap, ◌∙◌, subst, ⊎_elim, arith}
 use Rattle.std.proofs.lemmas.List.{length-map}
-use Rattle.std.proofs.lemmas.Bool.{cond-true, cond-false, lt-ltb}
-use Rattle.std.proofs.str.Laws.{order}
+use Rattle.std.proofs.lemmas.Bool.{cases_lt, cond-true, cond-false, lt-ltb}
 use Rattle.task.specs.Model.{Model}
 use Rattle.task.specs.Moves.{FirstMove}
 use Rattle.task.specs.Listing.{Each}
@@ -15,10 +14,9 @@ use Rattle.sas.specs.States.{spanned, values, numbered}
 use Rattle.sas.specs.Tables.{ConditionFits, part, action_of}
 use Rattle.sas.specs.Values.{Below, Sized, Within, sizes}
 use Rattle.sas.specs.Scans.{acts, led, FirstActing, FirstLed, Placed, Fitted}
-use Rattle.sas.proofs.Acts.{nth_there, nth_past}
-use Rattle.sas.proofs.Assigned.{length-values, values_below}
+use Rattle.sas.specs.Acts.{no_operator, nth_there, nth_past}
+use Rattle.sas.specs.Assigned.{length-values, values_below}
 use Rattle.task.proofs.Members.{each_weaker}
-use Rattle.sas.proofs.Walks.{no_operator}
 
 pub fits_within : (ns : List ℕ) (n : ℕ) (cs : List Condition) → length ns ≡ n → Each (ConditionFits ns) cs → Within n cs
 fits_within ns n cs e f = each_weaker (ConditionFits ns) (λ c. c.variable < n) (λ c p. omega (arith, p.known)) cs f
@@ -36,7 +34,7 @@ module _ (vars : List Variable) (s : ℕ) (vs : List ℕ) (e : vs ≡ values (si
 
 -- what holds from one number up to another, and of that, holds one further
 pub before_more : (P : ℕ → Type 0) (from n : ℕ) → ((o : ℕ) → from ≤ o → o < n → P o) → P n → (o : ℕ) → from ≤ o → o < n + 1 → P o
-before_more P from n f p o h l = ⊎_elim (λ k. f o h k) (λ k. subst P (let e : n ≡ o = omega arith in e) p) (order o n)
+before_more P from n f p o h l = ⊎_elim (λ k. f o h k) (λ k. subst P (let e : n ≡ o = omega arith in e) p) (cases_lt o n)
 
 pub fitted_placed : (cs : List Condition) (ns : List ℕ) (n : ℕ) (os : List Operator) → length ns ≡ n → Each (Fitted cs ns) os → Each (Placed cs n) os
 fitted_placed cs ns n os e f =

@@ -1,9 +1,6 @@
 -- Tests that every member of a list passes. Assumes nothing.
-use Rattle.std.proofs.Common.{◌≡◌, ℕ, ◌+◌, ◌<◌, Bool, true, false, ◌&&◌, List, [], ◌∷◌, length, get_or, drop, Decides, refl, ap, ◌∙◌}
+use Rattle.std.proofs.Common.{◌≡◌, ℕ, ◌+◌, ◌<◌, Bool, true, false, ◌&&◌, List, ◌∷◌, length, get_or, drop, ap, ◌∙◌}
 use Rattle.std.proofs.lemmas.List.{at_drop_more}
-use Rattle.std.proofs.lemmas.Bool.Decides.{Decides-and}
-use Rattle.task.specs.Listing.{Each}
-use Rattle.sas.specs.Checks.{each}
 
 -- F says of a list that each member passes p
 module _ {A : Type 0} (F : List A → Bool) (p : A → Bool) (next : (x : A) (xs : List A) → F (x ∷ xs) ≡ (p x && F xs)) (xs : List A) (i : ℕ) (d : A) (h : i < length xs) where
@@ -15,7 +12,3 @@ module _ {A : Type 0} (F : List A → Bool) (p : A → Bool) (next : (x : A) (xs
 
   pub passes_not : p (get_or xs i d) ≡ false → F (drop i xs) ≡ false
   passes_not e = at_member ∙ ap (λ b. b && F (drop (i + 1) xs)) e
-
-pub decides_each : {A : Type 0} (p : A → Bool) (P : A → Type 0) → ((x : A) → Decides (p x) (P x)) → (xs : List A) → Decides (each p xs) (Each P xs)
-decides_each p P f [] = (λ e. tt, λ e. refl)
-decides_each p P f (x ∷ xs) = Decides-and (p x) (each p xs) (f x) (decides_each p P f xs)

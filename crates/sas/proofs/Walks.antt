@@ -4,21 +4,17 @@ use Rattle.std.proofs.lemmas.Nat.{mul-le}
 use Rattle.std.proofs.lemmas.List.{take_more_set, append_assoc, append-nil, at_drop_more, at_drop_all, drop_more, drop-map, get_or-map, length-map, take_all}
 use Rattle.sas.specs.declared.tables.Variable.{Variable}
 use Rattle.sas.specs.declared.tables.Condition.{Condition}
-use Rattle.sas.specs.declared.tables.Operator.{Operator}
 use Rattle.sas.specs.States.{spanned, values, summed, numbered}
 use Rattle.sas.specs.Actions.{suits, renewed, changed}
 use Rattle.sas.specs.Values.{Below, Sized, Within, sizes}
 use Rattle.task.proofs.Members.{each_at, each-drop}
-use Rattle.sas.proofs.Assigned.{spanned_positive, length_below, below_sized, numbered_below}
+use Rattle.sas.specs.Assigned.{spanned_positive, length_below, below_sized, numbered_below}
 
 abbrev pub no_variable : Variable
 no_variable = record { size = 0 }
 
 abbrev pub no_condition : Condition
 no_condition = record { variable = 0; before = None; after = None }
-
-abbrev pub no_operator : Operator
-no_operator = record { name = 0; name_length = 0; first = 0; count = 0; cost = 0 }
 
 -- whether the condition has the value that it asks for
 abbrev pub met : List ℕ → Condition → Bool

@@ -6,3 +6,8 @@ pub mod Checks
 pub mod Values
 pub mod Scans
 pub mod Meaning
+pub mod Assigned
+pub mod Found
+pub mod Acts
+pub mod Lawful
+pub mod Makes

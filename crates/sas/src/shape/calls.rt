@@ -1,6 +1,7 @@
 // The task made from tables, and its calls.
 ghost use Rattle.std.specs.Prelude.{◌≡◌, ◌+◌, ◌≤◌, true, length, take};
 ghost use Rattle.sas.specs.Checks.{tables};
+ghost use Rattle.sas.specs.Makes.{task_lawful, task_nameless};
 ghost use Rattle.sas.specs.Meaning.{Made, task_meaning, task_names};
 ghost use Rattle.sas.specs.Tables.{part};
 
@@ -70,6 +71,8 @@ fn name_of(bytes: &[u8], operator: Operator) -> &[u8]
 impl Task for SasTask<'_> {
     ghost meaning = { task_meaning };
 
+    ghost lawful = { task_lawful };
+
     fn operators(&self) -> u32 {
         if self.made { self.used.operators } else { 0 }
     }
@@ -136,6 +139,8 @@ impl Task for SasTask<'_> {
 
 impl NamedTask for SasTask<'_> {
     ghost names = { task_names };
+
+    ghost nameless = { task_nameless };
 
     fn name(&self, operator: u32) -> &[u8] {
         if self.made && operator < self.used.operators {

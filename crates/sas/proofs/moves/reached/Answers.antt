@@ -1,6 +1,6 @@
 use Rattle.std.proofs.Common.{sym, subst}
 use Rattle.sas.specs.Values.{Below, sizes}
-use Rattle.sas.proofs.Assigned.{changed_below, length_below}
+use Rattle.sas.specs.Assigned.{changed_below, length_below}
 use Rattle.sas.proofs.Scanned.{fits_within}
 use Rattle.sas.proofs.moves.reached.Goals as goal
 

@@ -8,12 +8,12 @@ use Rattle.sas.proofs.moves.successor.Goals as goal
 pub holds-requires : goal.holds-requires
 holds-requires c =
     fits_decoded c.args.variables.now c.args.state _ c.decode.ensures _
-    (subst (Each (ConditionFits (sizes c.args.variables.now))) (sym c.conditions-of-conditions.ensures) c.requires.fitted.fit)
+    (subst (Each (ConditionFits (sizes c.args.variables.now))) (sym c.conditions_of-conditions.ensures) c.requires.fitted.fit)
 
 pub reached-requires : goal.reached-requires
 reached-requires c =
     record {
       below = below_decoded c.args.variables.now c.args.state _ c.decode.ensures c.requires.usable.sized;
       small = c.requires.usable.small;
-      fit = subst (Each (ConditionFits (sizes c.args.variables.now))) (sym c.conditions-of-conditions.ensures) c.requires.fitted.fit;
+      fit = subst (Each (ConditionFits (sizes c.args.variables.now))) (sym c.conditions_of-conditions.ensures) c.requires.fitted.fit;
     }

@@ -6,14 +6,14 @@ use Rattle.sas.proofs.Tested.{passes_more, passes_not}
 use Rattle.sas.proofs.Walks.{no_condition}
 use Rattle.sas.proofs.range.conditions_in_range.Goals as goal
 
-pub returns-then-not-condition-in-range : goal.returns-then-not-condition-in-range
-returns-then-not-condition-in-range c =
-    sym (passes_not (each (condition_fits (sizes c.args.variables.now))) (condition_fits (sizes c.args.variables.now)) (λ _ _. refl) c.args.conditions.now c.loop-i.i no_condition (omega arith) (sym c.if-not-condition-in-range.ensures))
+pub returns-then-not-condition_in_range : goal.returns-then-not-condition_in_range
+returns-then-not-condition_in_range c =
+    sym (passes_not (each (condition_fits (sizes c.args.variables.now))) (condition_fits (sizes c.args.variables.now)) (λ _ _. refl) c.args.conditions.now c.loop-i.i no_condition (omega arith) (sym c.if-not-condition_in_range.ensures))
     ∙ c.loop-i.invariant
 
 pub loop-i-preserved : goal.loop-i-preserved
 loop-i-preserved c =
-    sym (passes_more (each (condition_fits (sizes c.args.variables.now))) (condition_fits (sizes c.args.variables.now)) (λ _ _. refl) c.args.conditions.now c.loop-i.i no_condition (omega arith) (sym c.if-not-condition-in-range.ensures))
+    sym (passes_more (each (condition_fits (sizes c.args.variables.now))) (condition_fits (sizes c.args.variables.now)) (λ _ _. refl) c.args.conditions.now c.loop-i.i no_condition (omega arith) (sym c.if-not-condition_in_range.ensures))
     ∙ c.loop-i.invariant
 
 pub returns : goal.returns

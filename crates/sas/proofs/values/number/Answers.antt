@@ -8,14 +8,14 @@ loop-i-init c = left_none c.args.variables.now c.args.values.now
 pub bounds-values-i : goal.bounds-values-i
 bounds-values-i c = omega (arith, same_length c.args.variables.now c.args.values.now c.requires.below)
 
-pub overflow-mul-number : goal.overflow-mul-number
-overflow-mul-number c = let h = number_below c.args.variables.now c.args.values.now c.requires.below c.loop-i.i c.loop-i.number c.loop-i.weight (omega arith) c.loop-i.invariant in omega arith
+pub overflow_mul-number : goal.overflow_mul-number
+overflow_mul-number c = let h = number_below c.args.variables.now c.args.values.now c.requires.below c.loop-i.i c.loop-i.number c.loop-i.weight (omega arith) c.loop-i.invariant in omega arith
 
-pub overflow-add-number : goal.overflow-add-number
-overflow-add-number c = let h = number_below c.args.variables.now c.args.values.now c.requires.below c.loop-i.i c.loop-i.number c.loop-i.weight (omega arith) c.loop-i.invariant in omega arith
+pub overflow_add-number : goal.overflow_add-number
+overflow_add-number c = let h = number_below c.args.variables.now c.args.values.now c.requires.below c.loop-i.i c.loop-i.number c.loop-i.weight (omega arith) c.loop-i.invariant in omega arith
 
-pub overflow-mul-weight : goal.overflow-mul-weight
-overflow-mul-weight c = let h = weight_below c.args.variables.now c.args.values.now c.requires.below c.loop-i.i c.loop-i.number c.loop-i.weight (omega arith) c.loop-i.invariant in omega arith
+pub overflow_mul-weight : goal.overflow_mul-weight
+overflow_mul-weight c = let h = weight_below c.args.variables.now c.args.values.now c.requires.below c.loop-i.i c.loop-i.number c.loop-i.weight (omega arith) c.loop-i.invariant in omega arith
 
 pub loop-i-preserved : goal.loop-i-preserved
 loop-i-preserved c = left_more c.args.variables.now c.args.values.now c.requires.below c.loop-i.i c.loop-i.number c.loop-i.weight (omega arith) c.loop-i.invariant

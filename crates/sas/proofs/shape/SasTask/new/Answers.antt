@@ -1,4 +1,4 @@
-use Rattle.sas.proofs.Makes.{made_of_tables}
+use Rattle.sas.specs.Makes.{made_of_tables}
 use Rattle.sas.proofs.shape.SasTask.new.Goals as goal
 
 pub returns : goal.returns

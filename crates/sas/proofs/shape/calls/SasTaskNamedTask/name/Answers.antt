@@ -1,14 +1,14 @@
 use Rattle.std.proofs.Common.{sym, ◌∙◌, arith}
 use Rattle.sas.proofs.Answered.{name_made, name_within}
-use Rattle.sas.proofs.Makes.{task_nameless, no_more}
+use Rattle.sas.specs.Makes.{task_nameless, no_more}
 use Rattle.sas.proofs.shape.calls.SasTaskNamedTask.name.Goals as goal
 use Rattle.sas.proofs.shape.calls.SasTaskNamedTask.name.Goals.{else-self-via-then-self+else-operator-self, else-self-via-else-self}
 
-pub name-of-requires : goal.name-of-requires
-name-of-requires c = name_within c.args.self.now c.if-self.true c.args.operator c.if-operator-self.true
+pub name_of-requires : goal.name_of-requires
+name_of-requires c = name_within c.args.self.now c.if-self.true c.args.operator c.if-operator-self.true
 
 pub returns-then-operator-self : goal.returns-then-operator-self
-returns-then-operator-self c = c.name-of.ensures ∙ name_made c.args.self.now c.if-self.true c.args.operator c.if-operator-self.true
+returns-then-operator-self c = c.name_of.ensures ∙ name_made c.args.self.now c.if-self.true c.args.operator c.if-operator-self.true
 
 pub returns-else-self : goal.returns-else-self
 returns-else-self c =

@@ -1,6 +1,6 @@
 use Rattle.std.proofs.Common.{sym, arith}
 use Rattle.sas.proofs.Answered.{cost_made}
-use Rattle.sas.proofs.Makes.{task_lawful, no_more}
+use Rattle.sas.specs.Makes.{task_lawful, no_more}
 use Rattle.sas.proofs.shape.calls.SasTaskTask.cost.Goals as goal
 use Rattle.sas.proofs.shape.calls.SasTaskTask.cost.Goals.{else-self-via-then-self+else-operator-self, else-self-via-else-self}
 

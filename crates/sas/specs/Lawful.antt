@@ -1,15 +1,13 @@
 -- Tables in range mean a task that keeps the laws. Assumes nothing.
 use Rattle.std.proofs.Common.{◌≡◌, ℕ, ◌^◌, ◌<◌, ◌≤◌, Bool, true, false, cond, ◌&&◌, ltb, [], get_or, Some, None, sym, refl, ap, ◌∙◌, subst, subst₂, ⊎_elim, arith}
-use Rattle.std.proofs.str.Laws.{order}
-use Rattle.std.proofs.lemmas.Bool.{and_parts, ltb-true, lt-ltb, cond-true}
+use Rattle.std.proofs.lemmas.Bool.{cases_lt, and_parts, ltb-true, lt-ltb, cond-true}
 use Rattle.task.specs.Model.{Lawful, AtMost}
 use Rattle.sas.specs.States.{spanned, values, numbered}
 use Rattle.sas.specs.Actions.{applies, changed}
 use Rattle.sas.specs.Sas.{cost_of, moved, meant}
 use Rattle.sas.specs.Tables.{Tables, InRange, sizes_of, sas_of, action_of, name_of, names_of}
-use Rattle.sas.proofs.Assigned.{values_below, changed_below, numbered_below, spanned_positive}
-use Rattle.sas.proofs.Acts.{actions_count, sizes_sized, action_there, action_past, operator_past, operator_fits_there, action_fits}
-use Rattle.sas.proofs.Walks.{no_operator}
+use Rattle.sas.specs.Assigned.{values_below, changed_below, numbered_below, spanned_positive}
+use Rattle.sas.specs.Acts.{no_operator, actions_count, sizes_sized, action_there, action_past, operator_past, operator_fits_there, action_fits}
 
 -- a test and its value, where the test passed
 passed : (s n u v : ℕ) (b d : Bool) → ltb s n ≡ b → v < n → cond (b && d) (Some v) None ≡ Some u → (s < n) × (u < n)
@@ -35,7 +33,7 @@ module _ (t : Tables) (r : InRange t) where
       (sym (ap (λ a. moved (sizes_of t) a s) (action_there t r o h)) ∙ e)
 
   moves_within : (s o u : ℕ) → (meant (sas_of t)).move s o ≡ Some u → (s < spanned (sizes_of t)) × (o < (meant (sas_of t)).operators) × (u < spanned (sizes_of t))
-  moves_within s o u e = ⊎_elim there past (order o t.used.operators)
+  moves_within s o u e = ⊎_elim there past (cases_lt o t.used.operators)
     where
       there : o < t.used.operators → (s < spanned (sizes_of t)) × (o < (meant (sas_of t)).operators) × (u < spanned (sizes_of t))
       there h = let l = led s o u h e in (l.0, omega (arith, actions_count t r), l.1)

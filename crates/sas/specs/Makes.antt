@@ -7,9 +7,13 @@ use Rattle.sas.specs.States.{spanned}
 use Rattle.sas.specs.Tables.{Tables, InRange, sizes_of}
 use Rattle.sas.specs.Checks.{range}
 use Rattle.sas.specs.Meaning.{tables_of, meaning_of, naming_of, task_meaning, task_names, Made}
-use Rattle.sas.proofs.Acts.{actions_count}
-use Rattle.sas.proofs.Found.{found_in_range, in_range_found}
-use Rattle.sas.proofs.Lawful.{meant_lawful, meant_nameless}
+use Rattle.sas.specs.Acts.{actions_count}
+use Rattle.sas.specs.Found.{found_in_range, in_range_found}
+use Rattle.sas.specs.Lawful.{meant_lawful, meant_nameless}
+
+one_without : (x : Option ℕ) → is_some x ≡ false → unwrap_or x 1 ≡ 1
+one_without None h = refl
+one_without (Some s) h = absurd (grind arith)
 
 module _ (t : Tables) where
   found_when : (x : Option ℕ) → range t ≡ x → is_some x ≡ true → InRange t × (unwrap_or x 1 ≡ spanned (sizes_of t))
@@ -26,6 +30,14 @@ module _ (s : SasTask) where
 
   pub made_spans : s.made ≡ true → s.span ≡ spanned (sizes_of (tables_of s))
   made_spans m = s.spans ∙ (found_when (tables_of s) (range (tables_of s)) refl (sym s.checked ∙ m)).1
+
+  -- the span is that of the task, made or not
+  pub spans_task : s.span ≡ (task_meaning s).span
+  spans_task = go s.made refl
+    where
+      go : (b : Bool) → s.made ≡ b → s.span ≡ (meaning_of b (tables_of s)).span
+      go true e = made_spans e
+      go false e = s.spans ∙ one_without (range (tables_of s)) (sym s.checked ∙ e)
 
   pub made_of_tables : Made (tables_of s) s
   made_of_tables =

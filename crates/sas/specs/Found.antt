@@ -1,6 +1,6 @@
 -- The range check finds a span exactly where the tables are in range, and it is theirs. Assumes nothing.
-use Rattle.std.proofs.Common.{◌≡◌, ℕ, ◌+◌, ◌^◌, ◌<◌, ◌≤◌, Bool, true, false, cond, ◌&&◌, leb, List, length, get_or, take, Some, None, Decides, Option, sym, refl, ap, ◌∙◌, one-mul, arith}
-use Rattle.std.proofs.lemmas.Bool.{cond-true}
+use Rattle.std.proofs.Common.{◌≡◌, ℕ, ◌+◌, ◌^◌, ◌<◌, ◌≤◌, Bool, true, false, cond, ◌&&◌, leb, List, [], ◌∷◌, length, get_or, take, Some, None, Decides, Option, sym, refl, ap, ◌∙◌, one-mul, arith}
+use Rattle.std.proofs.lemmas.Bool.{cond-true, leb-true, le-leb}
 use Rattle.std.proofs.lemmas.Bool.Decides.{Decides-and, Decides-like, Decides-ltb}
 use Rattle.task.specs.Listing.{Each}
 use Rattle.sas.specs.declared.tables.Condition.{Condition}
@@ -8,8 +8,16 @@ use Rattle.sas.specs.declared.tables.Operator.{Operator}
 use Rattle.sas.specs.States.{spanned}
 use Rattle.sas.specs.Tables.{Tables, InRange, Valid, ConditionFits, OperatorFits, sizes_of, used_operators}
 use Rattle.sas.specs.Checks.{each, size_fits, product, valid, condition_fits, operator_fits, tables_count, tables_fit, fitting, range}
-use Rattle.sas.proofs.Tested.{decides_each}
-use Rattle.sas.proofs.Ranges.{decides_leb, decides_size}
+
+pub decides_each : {A : Type 0} (p : A → Bool) (P : A → Type 0) → ((x : A) → Decides (p x) (P x)) → (xs : List A) → Decides (each p xs) (Each P xs)
+decides_each p P f [] = (λ e. tt, λ e. refl)
+decides_each p P f (x ∷ xs) = Decides-and (p x) (each p xs) (f x) (decides_each p P f xs)
+
+pub decides_leb : (a b : ℕ) → Decides (leb a b) (a ≤ b)
+decides_leb a b = (leb-true a b, le-leb a b)
+
+pub decides_size : (n : ℕ) → Decides (size_fits n) ((1 ≤ n) × (n ≤ 1000))
+decides_size n = Decides-and (leb 1 n) (leb n 1000) (decides_leb 1 n) (decides_leb n 1000)
 
 pub decides_valid : (o : Option ℕ) (n : ℕ) → Decides (valid o n) (Valid o n)
 decides_valid None n = (λ e. tt, λ v. refl)

@@ -2,11 +2,14 @@
 use Rattle.std.proofs.Common.{◌≡◌, ℕ, zero, suc, ◌+◌, ◌<◌, ◌≤◌, List, [], ◌∷◌, length, get_or, take, Some, None, refl, ap, ◌∙◌, subst, arith}
 use Rattle.std.proofs.lemmas.List.{length-map, length-take-le, get_or-map, get_or-take, take-take, drop-take}
 use Rattle.task.specs.Listing.{Each}
+use Rattle.sas.specs.declared.tables.Operator.{Operator}
 use Rattle.sas.specs.Sas.{nth}
 use Rattle.sas.specs.Tables.{Tables, InRange, ConditionFits, OperatorFits, part, sizes_of, sas_of, action_of, used_operators}
 use Rattle.sas.specs.Values.{Sized}
 use Rattle.task.proofs.Members.{each_at, each_take, each-drop, each_weaker}
-use Rattle.sas.proofs.Walks.{no_operator}
+
+abbrev pub no_operator : Operator
+no_operator = record { name = 0; name_length = 0; first = 0; count = 0; cost = 0 }
 
 module _ {A : Type 0} where
   pub nth_there : (xs : List A) (o : ℕ) (d : A) → o < length xs → nth xs o ≡ Some (get_or xs o d)

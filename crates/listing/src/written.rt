@@ -37,7 +37,7 @@ fn add_plan<T: NamedTask>(
     text: &mut Vec<u8>,
 ) -> Result<bool, Fault>
     requires { length buffer.old ≡ 65536 }
-    ensures { MatchResult result (λ more. Added (T.Task.meaning task.now) (names task.now) steps.now text.old.items text.new.items more) (λ f. f ≡ no_memory) }
+    ensures { MatchResult result (λ more. Added (T.Task.meaning task.now) (T.NamedTask.names task.now) steps.now text.old.items text.new.items more) (λ f. f ≡ no_memory) }
 {
     match write_plan(task, steps, buffer) {
         Ok(length) => {
@@ -60,7 +60,7 @@ fn write_plans<T: NamedTask>(
     buffer: &mut [u8],
 ) -> Result<Output, Fault>
     requires { length buffer.old ≡ 65536 }
-    ensures { MatchResult result (λ o. written o ≡ texts (T.Task.meaning task.now) (names task.now) (take 100 (plans_of plans.now))) (λ f. f ≡ no_memory) }
+    ensures { MatchResult result (λ o. written o ≡ texts (T.Task.meaning task.now) (T.NamedTask.names task.now) (take 100 (plans_of plans.now))) (λ f. f ≡ no_memory) }
 {
     let mut text = Vec::new(heap);
     let count = plans.len().min(100);
@@ -81,7 +81,7 @@ fn write_plans<T: NamedTask>(
 
 // What is written of a task: the first hundred of its cheapest plans, or that none was found within reach.
 pub(crate) fn list_task<T: NamedTask>(heap: Global, task: &T) -> Result<Output, Fault>
-    ensures { MatchResult result (λ o. Outcome 8 (T.Task.meaning task.now) (names task.now) (written o)) (λ f. f ≡ no_memory) }
+    ensures { MatchResult result (λ o. Outcome 8 (T.Task.meaning task.now) (T.NamedTask.names task.now) (written o)) (λ f. f ≡ no_memory) }
 {
     match cheapest(heap, task, HIGHEST)? {
         None => refusal(heap, Fault::session(Kind::Unfinished)),

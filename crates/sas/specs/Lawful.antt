@@ -25,8 +25,8 @@ module _ (t : Tables) (r : InRange t) where
       subst (λ a. (1 ≤ cost_of a) × (cost_of a ≤ 1000000)) (sym (action_there t r o k)) (operator_fits_there t r o k).priced
 
   -- an operator that is there leads from a state to a state
-  led : (s o u : ℕ) → o < t.used.operators → (meant (sas_of t)).move s o ≡ Some u → (s < spanned (sizes_of t)) × (u < spanned (sizes_of t))
-  led s o u h e =
+  leads_within : (s o u : ℕ) → o < t.used.operators → (meant (sas_of t)).move s o ≡ Some u → (s < spanned (sizes_of t)) × (u < spanned (sizes_of t))
+  leads_within s o u h e =
       let cs = (action_of t.conditions (get_or t.operators o no_operator)).conditions in
       let low = numbered_below (sizes_of t) (changed cs (values (sizes_of t) s)) (changed_below (sizes_of t) cs (values (sizes_of t) s) (action_fits t r o h) (values_below (sizes_of t) s (sizes_sized t r))) in
       passed s (spanned (sizes_of t)) u (numbered (sizes_of t) (changed cs (values (sizes_of t) s))) (ltb s (spanned (sizes_of t))) (applies cs (values (sizes_of t) s)) refl low
@@ -36,7 +36,7 @@ module _ (t : Tables) (r : InRange t) where
   moves_within s o u e = ⊎_elim there past (cases_lt o t.used.operators)
     where
       there : o < t.used.operators → (s < spanned (sizes_of t)) × (o < (meant (sas_of t)).operators) × (u < spanned (sizes_of t))
-      there h = let l = led s o u h e in (l.0, omega (arith, actions_count t r), l.1)
+      there h = let l = leads_within s o u h e in (l.0, omega (arith, actions_count t r), l.1)
 
       past : t.used.operators ≤ o → (s < spanned (sizes_of t)) × (o < (meant (sas_of t)).operators) × (u < spanned (sizes_of t))
       past h = let none : None ≡ Some u = sym (ap (λ a. moved (sizes_of t) a s) (action_past t r o h)) ∙ e in absurd (grind arith)

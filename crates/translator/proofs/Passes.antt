@@ -1,5 +1,5 @@
 -- Two passes over one file: the first finds it good, the second fills the tables. Assumes nothing.
-use Rattle.std.proofs.Common.{◌≡◌, ℕ, ◌≤◌, true, ltb, List, ◌++◌, length, Ok, Err, Result, sym, refl, ap, ◌∙◌, subst, arith}
+use Rattle.std.proofs.Common.{◌≡◌, ℕ, ◌≤◌, true, ltb, List, ◌++◌, length, Ok, Err, Result, sym, ap, ◌∙◌, subst, arith}
 use Rattle.std.proofs.lemmas.Bool.{cond-false, le-ltb}
 use Rattle.task.specs.declared.faults.Fault.{Fault}
 use Rattle.sas.specs.declared.tables.Variable.{Variable}

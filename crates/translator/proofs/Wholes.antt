@@ -1,5 +1,5 @@
 -- What stands behind the start state, and the whole file. Assumes nothing.
-use Rattle.std.proofs.Common.{◌≡◌, ℕ, ◌+◌, ◌-◌, ◌≤◌, min, Bool, List, [], ◌∷◌, ◌++◌, length, take, Ok, sym, refl, ap, ◌∙◌, subst, arith}
+use Rattle.std.proofs.Common.{◌≡◌, ℕ, ◌-◌, ◌≤◌, min, Bool, List, [], length, take, Ok, sym, refl, ap, ◌∙◌, subst, arith}
 use Rattle.std.proofs.lemmas.List.{length-append, length-map, length-take-le}
 use Rattle.task.specs.declared.faults.Kind.TheVariants.{OverLimit, NotCarried}
 use Rattle.sas.specs.declared.tables.Condition.{Condition}
@@ -10,7 +10,7 @@ use Rattle.translator.specs.Lines.{Place}
 use Rattle.translator.specs.Description.{DescribedVariable, DescribedOperator, sizes_in, all_conditions}
 use Rattle.translator.specs.Filled.{GoalFilled, OperatorsFilled, RestFilled, VariablesFilled, FileFilled}
 use Rattle.translator.specs.Filling.{filled, operator_records, variable_record}
-use Rattle.translator.specs.Sections.{Room, goal_section, number_line, next_operator, repeated, file_end, rest_of_file}
+use Rattle.translator.specs.Sections.{goal_section, number_line, next_operator, repeated, file_end, rest_of_file}
 use Rattle.translator.proofs.Fills.{filled-append}
 use Rattle.translator.proofs.Operators.{length-operator_records}
 use Rattle.translator.proofs.Repeats.{chain}

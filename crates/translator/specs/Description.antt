@@ -1,5 +1,5 @@
 -- What a translator file describes. Assumes nothing.
-use Rattle.std.specs.Prelude.{ℕ, ◌+◌, Bool, List, [], ◌∷◌, ◌++◌, map, length}
+use Rattle.std.specs.Prelude.{ℕ, Bool, List, [], ◌∷◌, ◌++◌, map}
 use Rattle.sas.specs.declared.tables.Condition.{Condition}
 
 -- a line of text, and the place of its first byte in the file

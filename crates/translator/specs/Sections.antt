@@ -10,7 +10,7 @@ use Rattle.translator.specs.declared.forms.Form.{Form}
 use Rattle.translator.specs.declared.forms.Form.TheVariants.{Mutex, Fact, Effect}
 use Rattle.translator.specs.Lines.{Place, opening}
 use Rattle.translator.specs.Reads.{Read, and_then, refuse, refuse_if, fault_at, next_line, keyword, next_number, next_signed, line_end}
-use Rattle.translator.specs.Description.{Text, DescribedVariable, DescribedOperator, Description, sizes_in, conditions_in, all_conditions}
+use Rattle.translator.specs.Description.{Text, DescribedVariable, DescribedOperator, Description, sizes_in, all_conditions}
 
 -- n steps, each from what the one before it left
 abbrev pub repeated : {A : Type 0} → (A → Place → Read A) → ℕ → A → Place → Read A

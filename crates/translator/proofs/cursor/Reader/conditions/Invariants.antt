@@ -1,7 +1,7 @@
 use Rattle.std.proofs.Common.{List}
 use Rattle.sas.specs.declared.tables.Condition.{Condition}
 use Rattle.translator.specs.Readers.{place_of}
-use Rattle.translator.proofs.Facts.{Frame, Sofar}
+use Rattle.translator.proofs.Facts.{Sofar}
 use Rattle.translator.proofs.cursor.Reader.conditions.Given as goal
 
 abbrev pub invariant-loop-at : goal.invariant-loop-at

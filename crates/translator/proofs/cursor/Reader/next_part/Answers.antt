@@ -1,4 +1,4 @@
-use Rattle.std.proofs.Common.{◌≡◌, ◌+◌, ◌-◌, take, drop, Ok, sym, ap, ◌∙◌, arith}
+use Rattle.std.proofs.Common.{◌≡◌, ◌+◌, ◌-◌, take, drop, Ok, ap, ◌∙◌, arith}
 use Rattle.translator.specs.Reads.{parted}
 use Rattle.translator.specs.Readers.{left_of, place_of}
 use Rattle.translator.proofs.Places.{left_more}

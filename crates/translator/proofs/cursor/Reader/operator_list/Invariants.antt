@@ -1,7 +1,7 @@
 use Rattle.std.proofs.Common.{List}
 use Rattle.translator.specs.Description.{DescribedOperator}
 use Rattle.translator.specs.Readers.{place_of}
-use Rattle.translator.proofs.Operators.{Frame, Sofar}
+use Rattle.translator.proofs.Operators.{Sofar}
 use Rattle.translator.proofs.cursor.Reader.operator_list.Given as goal
 
 abbrev pub invariant-loop-at : goal.invariant-loop-at

@@ -4,4 +4,4 @@ use Rattle.translator.proofs.cursor.Reader.text_line.Goals as goal
 
 pub returns : goal.returns
 returns c =
-    (record { place = c.args.self.now.next; letters = c.in-ok-line.line.now }, ap (λ d. and_then d (λ (l : List ℕ) q. Ok (record { place = c.args.self.now.next; letters = l }, q))) c.in-ok-line.ensures.tells, (refl, refl))
+    (record { place = c.args.self.now.next; letters = c.in_ok-line.line.now }, ap (λ d. and_then d (λ (l : List ℕ) q. Ok (record { place = c.args.self.now.next; letters = l }, q))) c.in_ok-line.ensures.tells, (refl, refl))

@@ -5,4 +5,4 @@ use Rattle.translator.proofs.Repeats.{Onward}
 use Rattle.translator.proofs.cursor.Reader.value_lines.Given as goal
 
 abbrev pub invariant-loop-at : goal.invariant-loop-at
-invariant-loop-at l = Onward value_line l.count [] (place_of l.initial.self) l.-at (place_of l.self)
+invariant-loop-at l = Onward value_line l.count [] (place_of l.initial.self) l._at (place_of l.self)

@@ -50,8 +50,8 @@ fn both_plans_are_cheapest(rt: HostRuntime) -> Result<(), Fail> {
     let found = cheapest(rt.alloc(), &Fork, 3).ok().ok_or("no memory")?;
     let plans = found.ok_or("no plan")?;
     assert!(rt; plans.len() == 2);
-    assert!(rt; plans[0].as_slice() == &[0]);
-    assert!(rt; plans[1].as_slice() == &[1]);
+    assert!(rt; plans[0].as_slice() == [0].as_slice());
+    assert!(rt; plans[1].as_slice() == [1].as_slice());
     Ok(())
 }
 

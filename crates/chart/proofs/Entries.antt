@@ -1,12 +1,12 @@
 -- Entries in order, and what an index says of the arcs. Assumes nothing.
 use Rattle.std.proofs.Common.{◌≡◌, ℕ, zero, suc, ◌+◌, ◌<◌, ◌≤◌, Bool, true, false, eqb, List, [], ◌∷◌, length, get_or, Some, None, sym, refl, ap, ◌∙◌, ⊎_elim, arith}
-use Rattle.std.proofs.str.Laws.{order}
-use Rattle.std.proofs.lemmas.Bool.{eqb-true}
+use Rattle.std.proofs.lemmas.Bool.{cases_lt, eqb-true}
 use Rattle.std.proofs.lemmas.Bool.Decides.{nat_tests}
 use Rattle.chart.specs.declared.tables.Arc.{Arc}
 use Rattle.chart.specs.declared.tables.Entry.{Entry}
 use Rattle.chart.specs.Faults.{no_arc}
 use Rattle.chart.specs.Index.{before, in_order, of_arc, entered, no_entry, Ordered, Indexed, Bound, NextArc}
+use Rattle.chart.specs.Lawful.{leads_both}
 use Rattle.chart.specs.Tables.{leads, target}
 use Rattle.chart.proofs.Targets.{target_none}
 
@@ -16,9 +16,6 @@ before_earlier e f s o h k = grind (arith, nat_tests)
 
 pub before_later : (e f : Entry) (s o : ℕ) → in_order e f ≡ true → before e s o ≡ false → before f s o ≡ false
 before_later e f s o h k = grind (arith, nat_tests)
-
-pub leads_both : (a : Arc) (s o : ℕ) → leads a s o ≡ true → (a.from ≡ s) × (a.operator ≡ o)
-leads_both a s o h = (grind (arith, nat_tests), grind (arith, nat_tests))
 
 pub both_lead : (a : Arc) (s o : ℕ) → a.from ≡ s → a.operator ≡ o → leads a s o ≡ true
 both_lead a s o e f = grind (arith, nat_tests)
@@ -68,7 +65,7 @@ module _ (arcs : List Arc) (es : List Entry) (x : Indexed arcs es) where
   module _ (s from r : ℕ) (b : Bound es s from r) where
     -- an entry of the state and an operator numbered `from` or more stands at the bound or later
     not_below : (k o : ℕ) → (get_or es k no_entry).from ≡ s → (get_or es k no_entry).operator ≡ o → from ≤ o → r ≤ k
-    not_below k o e f l = ⊎_elim (λ m. absurd (let t = b.below k m in grind (arith, nat_tests))) (λ m. m) (order k r)
+    not_below k o e f l = ⊎_elim (λ m. absurd (let t = b.below k m in grind (arith, nat_tests))) (λ m. m) (cases_lt k r)
 
     pub none_at_end : r ≡ length es → (o : ℕ) → from ≤ o → target arcs s o ≡ None
     none_at_end h o l = no_target s o (λ k m e f. omega (arith, not_below k o e f l))

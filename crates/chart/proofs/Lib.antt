@@ -1,9 +1,6 @@
 pub mod Charts
 pub mod Entries
 pub mod Firsts
-pub mod Hopes
-pub mod Lawful
-pub mod Makes
 pub mod Outcomes
 pub mod Repeats
 pub mod Sorts

@@ -1,8 +1,7 @@
 -- Arcs that have no earlier one of their state and operator. Assumes nothing.
-use Rattle.std.proofs.Common.{◌≡◌, ℕ, ◌<◌, ◌≤◌, Bool, true, false, not, eqb, ◌⊎◌, List, length, get_or, take, is_some, Some, None, sym, refl, ap, ◌∙◌, subst, inl, inr, ⊎_elim, arith}
-use Rattle.std.proofs.str.Laws.{order}
+use Rattle.std.proofs.Common.{◌≡◌, ℕ, ◌<◌, true, false, not, eqb, List, length, get_or, take, is_some, Some, None, sym, refl, ap, ◌∙◌, subst, ⊎_elim, arith}
 use Rattle.std.proofs.lemmas.List.{get_or-take, length-take-le}
-use Rattle.std.proofs.lemmas.Bool.{cases_order, eq-eqb, ne_eqb, both_ways}
+use Rattle.std.proofs.lemmas.Bool.{cases_lt, cases_order, eq-eqb, ne_eqb, both_ways}
 use Rattle.chart.specs.declared.tables.Arc.{Arc}
 use Rattle.chart.specs.Faults.{new_arc, no_arc}
 use Rattle.chart.specs.Index.{NextArc}
@@ -31,7 +30,7 @@ module _ (arcs : List Arc) (i : ℕ) (l : i < length arcs) where
 
   module _ (j : ℕ) (n : NextArc arcs s o (Some j)) where
     same_operator : (get_or arcs j no_arc).operator ≡ o
-    same_operator = ⊎_elim (λ m. absurd (some_target (n.4 o (omega arith) m))) (λ m. omega (arith, n.2)) (order o (get_or arcs j no_arc).operator)
+    same_operator = ⊎_elim (λ m. absurd (some_target (n.4 o (omega arith) m))) (λ m. omega (arith, n.2)) (cases_lt o (get_or arcs j no_arc).operator)
 
     none_earlier : (k : ℕ) → k < j → leads (get_or arcs k no_arc) s o ≡ false
     none_earlier k h = subst (λ p. leads (get_or arcs k no_arc) s p ≡ false) same_operator (n.3 k h)

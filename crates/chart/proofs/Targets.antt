@@ -1,5 +1,5 @@
 -- Where arcs lead. Assumes nothing.
-use Rattle.std.proofs.Common.{◌≡◌, ℕ, zero, suc, ◌<◌, ◌≤◌, Bool, true, false, cond, List, [], ◌∷◌, length, get_or, Some, None, Option, sym, refl, ap, ◌∙◌, arith}
+use Rattle.std.proofs.Common.{◌≡◌, ℕ, zero, suc, ◌<◌, Bool, true, false, cond, List, [], ◌∷◌, length, get_or, Some, None, sym, refl, ap, ◌∙◌, arith}
 use Rattle.chart.specs.declared.tables.Arc.{Arc}
 use Rattle.chart.specs.Tables.{leads, target}
 use Rattle.chart.specs.Faults.{no_arc}
@@ -25,15 +25,3 @@ module _ (s o : ℕ) where
       go rec true f k l = let bad : Some a.to ≡ None = ap (λ b. cond b (Some a.to) (target arcs s o)) (sym f) ∙ e in absurd (grind arith)
       go rec false f zero l = f
       go rec false f (suc k) l = rec (ap (λ b. cond b (Some a.to) (target arcs s o)) (sym f) ∙ e) k (omega arith)
-
-  -- the target t is that of an arc
-  abbrev pub Led : List Arc → ℕ → Type 0
-  Led arcs t = (k : ℕ) × (k < length arcs) × (leads (get_or arcs k no_arc) s o ≡ true) × ((get_or arcs k no_arc).to ≡ t)
-
-  pub some_leads : (arcs : List Arc) (t : ℕ) → target arcs s o ≡ Some t → Led arcs t
-  some_leads [] t e = absurd (grind arith)
-  some_leads (a ∷ arcs) t e = go (some_leads arcs t) (leads a s o) refl
-    where
-      go : (target arcs s o ≡ Some t → Led arcs t) → (b : Bool) → leads a s o ≡ b → Led (a ∷ arcs) t
-      go rec true f = let same : Some a.to ≡ Some t = ap (λ b. cond b (Some a.to) (target arcs s o)) (sym f) ∙ e in (0, omega arith, f, (cc))
-      go rec false f = let r = rec (ap (λ b. cond b (Some a.to) (target arcs s o)) (sym f) ∙ e) in (suc r.0, omega (arith, r.1), r.2, r.3)

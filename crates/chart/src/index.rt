@@ -28,7 +28,7 @@ pub(crate) fn index_of(heap: Global, arcs: &[Arc]) -> Result<Vec<Entry>, AllocEr
     ensures { IfOk result (λ v. Indexed arcs.now v.items) }
 {
     let mut index = entries_of(heap, arcs)?;
-    index.sort();
+    index.sort_unstable();
     Ok(index)
 }
 

@@ -48,7 +48,7 @@ fn the_small_chart_is_answered(rt: HostRuntime) -> Result<(), Fail> {
     assert_eq!(rt; chart.next_move(2, 0), None);
     assert_eq!(rt; chart.estimate(1), Some(3));
     assert!(rt; chart.is_goal(2));
-    assert!(rt; chart.name(1) == b"hop");
+    assert!(rt; chart.name(1) == b"hop".as_slice());
     Ok(())
 }
 

@@ -1,6 +1,7 @@
 // The chart made from tables, and its calls.
 ghost use Rattle.std.specs.Prelude.{◌≡◌, ◌<◌, true, length, IfOk};
 ghost use Rattle.chart.specs.Faults.{end_fits};
+ghost use Rattle.chart.specs.Makes.{task_lawful, task_nameless};
 ghost use Rattle.chart.specs.Meaning.{Checked, FirstOut, Made, task_meaning, task_names};
 ghost use Rattle.chart.specs.Tables.{contents, name_of};
 
@@ -67,6 +68,8 @@ fn name_at<'a>(text: &'a [u8], ends: &[usize], operator: usize) -> &'a [u8]
 
 impl Task for Chart<'_> {
     ghost meaning = { task_meaning };
+
+    ghost lawful = { task_lawful };
 
     fn operators(&self) -> u32 {
         if self.made {
@@ -141,6 +144,8 @@ impl Task for Chart<'_> {
 
 impl NamedTask for Chart<'_> {
     ghost names = { task_names };
+
+    ghost nameless = { task_nameless };
 
     fn name(&self, operator: u32) -> &[u8] {
         if self.made && (operator as usize) < self.tables.ends.len() {

@@ -4,9 +4,9 @@ use Rattle.task.specs.declared.faults.Kind.TheVariants.{ArcRepeated}
 use Rattle.chart.proofs.Firsts.{answer_first, answer_none}
 use Rattle.chart.proofs.checks.check_repeats.Goals as goal
 
-pub returns-then-not-is-new : goal.returns-then-not-is-new
-returns-then-not-is-new c =
-    answer_first (λ k. new_arc c.args.arcs.now k) ArcRepeated (length c.args.arcs.now) c.loop-i.i c.chart.result (omega arith) c.loop-i.invariant (sym c.if-not-is-new.ensures) c.chart.ensures
+pub returns-then-not-is_new : goal.returns-then-not-is_new
+returns-then-not-is_new c =
+    answer_first (λ k. new_arc c.args.arcs.now k) ArcRepeated (length c.args.arcs.now) c.loop-i.i c.chart.result (omega arith) c.loop-i.invariant (sym c.if-not-is_new.ensures) c.chart.ensures
 
 pub returns : goal.returns
 returns c = answer_none (λ k. new_arc c.args.arcs.now k) ArcRepeated (length c.args.arcs.now) (λ k l. c.loop-i.invariant k (omega arith))

@@ -1,12 +1,12 @@
 -- What a made chart is known to hold. Assumes nothing.
-use Rattle.std.proofs.Common.{◌≡◌, ℕ, ◌≤◌, Bool, true, false, not, [], is_some, Some, None, Option, sym, refl, ap, ◌∙◌, arith}
+use Rattle.std.proofs.Common.{◌≡◌, ℕ, ◌≤◌, Bool, true, false, not, [], is_some, Some, None, Option, sym, refl, ◌∙◌, arith}
 use Rattle.task.specs.Model.{Lawful}
 use Rattle.task.proofs.Nothing.{nothing_lawful}
 use Rattle.chart.specs.declared.shape.Chart.{Chart}
 use Rattle.chart.specs.Faults.{chart_fault}
-use Rattle.chart.specs.Meaning.{meaning_of, naming_of, task_meaning, task_names, Made}
+use Rattle.chart.specs.Meaning.{meaning_of, naming_of, task_meaning, task_names}
 use Rattle.chart.specs.Tables.{contents}
-use Rattle.chart.proofs.Lawful.{Passed, no_fault_passed, charted_lawful, charted_nameless}
+use Rattle.chart.specs.Lawful.{Passed, no_fault_passed, charted_lawful, charted_nameless}
 
 none_some : {A : Type 0} (x : Option A) → not (is_some x) ≡ true → x ≡ None
 none_some None e = refl
@@ -15,16 +15,6 @@ none_some (Some a) e = absurd (grind arith)
 module _ (c : Chart) where
   pub made_passed : c.made ≡ true → Passed (contents c.tables)
   made_passed m = no_fault_passed (contents c.tables) (none_some (chart_fault (contents c.tables)) (sym c.checked ∙ m))
-
-  pub made_of_tables : Made (contents c.tables) c
-  made_of_tables =
-      record {
-        held = λ e. both (c.checked ∙ ap (λ x. not (is_some x)) e);
-        refused = λ f e. both (c.checked ∙ ap (λ x. not (is_some x)) e);
-      }
-    where
-      both : {b : Bool} → c.made ≡ b → (task_meaning c ≡ meaning_of b (contents c.tables)) × (task_names c ≡ naming_of b (contents c.tables))
-      both e = (ap (λ b. meaning_of b (contents c.tables)) e, ap (λ b. naming_of b (contents c.tables)) e)
 
   pub task_lawful : Lawful (task_meaning c)
   task_lawful = go c.made refl

@@ -1,20 +1,54 @@
 -- Tables without a fault mean a task that keeps the laws. Assumes nothing.
-use Rattle.std.proofs.Common.{◌≡◌, ℕ, ◌+◌, ◌-◌, ◌^◌, ◌<◌, ◌≤◌, Bool, true, false, cond, eqb, ltb, List, [], length, get_or, take, drop, Some, None, Option, sym, refl, ap, ◌∙◌, subst, subst₂, ⊎_elim, arith}
-use Rattle.std.proofs.str.Laws.{order}
+use Rattle.std.proofs.Common.{◌≡◌, ℕ, zero, suc, ◌+◌, ◌-◌, ◌<◌, ◌≤◌, Bool, true, false, cond, eqb, ltb, List, [], ◌∷◌, length, get_or, take, drop, Some, None, Option, sym, refl, ap, ◌∙◌, ⊎_elim, arith}
 use Rattle.std.proofs.lemmas.List.{get_or_default, get_or_past}
-use Rattle.std.proofs.lemmas.Bool.{ltb-true, leb-true, both_ways}
+use Rattle.std.proofs.lemmas.Bool.{cases_lt, ltb-true, leb-true, both_ways}
 use Rattle.std.proofs.lemmas.Bool.Decides.{nat_tests}
-use Rattle.task.specs.declared.faults.Fault.{Fault}
 use Rattle.task.specs.declared.faults.Kind.{Kind}
-use Rattle.task.specs.declared.faults.Kind.TheVariants.{OverLimit, OutOfRange, ArcRepeated, EstimateLaw}
+use Rattle.task.specs.declared.faults.Kind.TheVariants.{OverLimit, OutOfRange, EstimateLaw}
 use Rattle.task.specs.Model.{Lawful, AtMost}
 use Rattle.chart.specs.declared.tables.Arc.{Arc}
 use Rattle.chart.specs.Faults.{or_else, fault_at, fault_unless, first_failing, lengths_fit, cost_fits, end_fits, arc_fits, goal_aware, at_most, arc_lawful, range_fault, table_fault, repeat_fault, law_fault, chart_fault, no_arc}
-use Rattle.chart.specs.Tables.{Tables, hope, estimate_of, charted, chart_names, name_of, name_start}
-use Rattle.chart.proofs.Entries.{leads_both}
-use Rattle.chart.proofs.Firsts.{all_pass}
-use Rattle.chart.proofs.Hopes.{hope_within}
-use Rattle.chart.proofs.Targets.{some_leads}
+use Rattle.chart.specs.Tables.{Tables, hope, estimate_of, charted, chart_names, leads, name_start, target}
+
+pub leads_both : (a : Arc) (s o : ℕ) → leads a s o ≡ true → (a.from ≡ s) × (a.operator ≡ o)
+leads_both a s o h = (grind (arith, nat_tests), grind (arith, nat_tests))
+
+module _ (s o : ℕ) where
+  -- the target t is that of an arc
+  abbrev pub Led : List Arc → ℕ → Type 0
+  Led arcs t = (k : ℕ) × (k < length arcs) × (leads (get_or arcs k no_arc) s o ≡ true) × ((get_or arcs k no_arc).to ≡ t)
+
+  pub some_leads : (arcs : List Arc) (t : ℕ) → target arcs s o ≡ Some t → Led arcs t
+  some_leads [] t e = absurd (grind arith)
+  some_leads (a ∷ arcs) t e = go (some_leads arcs t) (leads a s o) refl
+    where
+      go : (target arcs s o ≡ Some t → Led arcs t) → (b : Bool) → leads a s o ≡ b → Led (a ∷ arcs) t
+      go rec true f = let same : Some a.to ≡ Some t = ap (λ b. cond b (Some a.to) (target arcs s o)) (sym f) ∙ e in (0, omega arith, f, (cc))
+      go rec false f = let r = rec (ap (λ b. cond b (Some a.to) (target arcs s o)) (sym f) ∙ e) in (suc r.0, omega (arith, r.1), r.2, r.3)
+
+module _ (p : ℕ → Bool) where
+  -- where none fails, each passes
+  pub all_pass : (n : ℕ) → first_failing p n ≡ None → (k : ℕ) → k < n → p k ≡ true
+  all_pass zero e k l = absurd (omega arith)
+  all_pass (suc n) e k l = go (λ f m. all_pass n f k m) (first_failing p n) (p n) refl refl
+    where
+      go : (first_failing p n ≡ None → k < n → p k ≡ true) → (x : Option ℕ) (b : Bool) → first_failing p n ≡ x → p n ≡ b → p k ≡ true
+      go rec (Some m) b ex eb = let bad : Some m ≡ None = ap (λ y. or_else y (cond (p n) None (Some n))) (sym ex) ∙ e in absurd (grind arith)
+      go rec None false ex eb = let bad : Some n ≡ None = ap (λ c. cond c None (Some n)) (sym eb) ∙ (ap (λ y. or_else y (cond (p n) None (Some n))) (sym ex) ∙ e) in absurd (grind arith)
+      go rec None true ex eb = ⊎_elim (rec ex) (λ m. let same : k ≡ n = omega arith in ap p same ∙ eb) (cases_lt k n)
+
+module _ (es : List ℕ) (s : ℕ) where
+  pub hope_past : length es ≤ s → None ≡ hope (get_or es s 4294967295)
+  hope_past h = sym (ap hope (get_or_past es s 4294967295 h))
+
+  pub hope_within : (h : ℕ) → hope (get_or es s 4294967295) ≡ Some h → (s < length es) × (h < 4294967295)
+  hope_within h e = (⊎_elim (λ l. l) (λ l. absurd (past (hope_past l ∙ e))) (cases_lt s (length es)), small (get_or es s 4294967295) e)
+    where
+      past : None ≡ Some h → ⊥
+      past e = grind arith
+
+      small : (x : ℕ) → hope x ≡ Some h → h < 4294967295
+      small x e = grind (arith, nat_tests)
 
 neither : {A : Type 0} (x y : Option A) → or_else x y ≡ None → (x ≡ None) × (y ≡ None)
 neither None y e = (refl, e)
@@ -99,7 +133,7 @@ module _ (t : Tables) (p : Passed t) where
       (omega (arith, k.0, b.0), omega (arith, k.1, b.1), omega (arith, k.2, w.3))
 
   goal_within : (s : ℕ) → get_or t.goals s false ≡ true → s < length t.goals
-  goal_within s e = ⊎_elim (λ l. l) (λ l. absurd (both_ways (get_or t.goals s false) (get_or_past t.goals s false l) e)) (order s (length t.goals))
+  goal_within s e = ⊎_elim (λ l. l) (λ l. absurd (both_ways (get_or t.goals s false) (get_or_past t.goals s false l) e)) (cases_lt s (length t.goals))
 
   goal_estimate : (s : ℕ) → get_or t.goals s false ≡ true → estimate_of t s ≡ Some 0
   goal_estimate s e =

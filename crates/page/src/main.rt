@@ -8,6 +8,7 @@ use layers::{Barred, Required};
 use std::alloc::{AllocError, AllocFailed, Global};
 use std::io;
 use std::io::Write;
+use std::process::ExitCode;
 use tally::{Watch, join_all, share, value_of};
 use task::{Fault, NamedTask};
 use text::write_plan;
@@ -35,6 +36,7 @@ const ESTIMATES: [u32; 6] = [3, 3, 3, 2, 0, 4_294_967_295];
 const HIGHEST: u32 = 8;
 
 // Why the program stopped.
+#[derive(Drop)]
 enum Stopped {
     Fault(Fault),
     Stream(io::Error),
@@ -177,23 +179,31 @@ fn redraw(heap: Global, arcs: &mut [Arc; 7]) -> Result<(usize, usize), Fault> {
     Ok((before, after))
 }
 
-fn main(rt: HostRuntime) -> Result<(), Stopped> {
+// Shows the page's plans, then their shares, then what a redrawn arc changes.
+fn run(rt: &HostRuntime) -> Result<(), Stopped> {
     let heap = rt.alloc();
     let mut arcs = page_arcs();
     Chart::check(heap, page_tables(&arcs))?;
     let chart = Chart::new(heap, page_tables(&arcs))?;
-    show_plans(&rt, "the page", &chart)?;
-    show_plans(&rt, "without crop", &Barred::new(&chart, CROP))?;
-    show_plans(&rt, "with type", &Required::new(&chart, TYPE))?;
-    show_plans(&rt, "with bleach", &Required::new(&chart, BLEACH))?;
+    show_plans(rt, "the page", &chart)?;
+    show_plans(rt, "without crop", &Barred::new(&chart, CROP))?;
+    show_plans(rt, "with type", &Required::new(&chart, TYPE))?;
+    show_plans(rt, "with bleach", &Required::new(&chart, BLEACH))?;
     println!(rt; "shares:")?;
     for operator in 0..5 {
-        show_share(&rt, &chart, operator)?;
+        show_share(rt, &chart, operator)?;
     }
     println!(rt; "shares where bleach is required:")?;
-    show_share(&rt, &Required::new(&chart, BLEACH), CROP)?;
+    show_share(rt, &Required::new(&chart, BLEACH), CROP)?;
     drop(chart);
     let (before, after) = redraw(heap, &mut arcs)?;
     println!(rt; "cheapest plans before and after an arc is redrawn: {before}, {after}")?;
     Ok(())
+}
+
+fn main(rt: HostRuntime) -> ExitCode {
+    match run(&rt) {
+        Ok(()) => ExitCode::SUCCESS,
+        Err(_) => ExitCode::FAILURE,
+    }
 }

@@ -5,9 +5,11 @@ use listing::list_plans;
 use std::alloc::Global;
 use std::io;
 use std::io::{Read, Write};
+use std::process::ExitCode;
 use text::write_refusal;
 
 // Why the program ends with status 1.
+#[derive(Drop)]
 enum Stopped {
     Refused,
     Stream(io::Error),
@@ -34,9 +36,10 @@ fn read_input(rt: &HostRuntime, heap: Global) -> io::Result<Vec<u8>> {
     Ok(bytes)
 }
 
-fn main(rt: HostRuntime) -> Result<(), Stopped> {
+// Reads the input, and writes its plans or why there are none.
+fn run(rt: &HostRuntime) -> Result<(), Stopped> {
     let heap = rt.alloc();
-    let bytes = read_input(&rt, heap)?;
+    let bytes = read_input(rt, heap)?;
     let mut output = rt.stdout();
     match list_plans(heap, &bytes) {
         Ok(listed) => {
@@ -55,6 +58,13 @@ fn main(rt: HostRuntime) -> Result<(), Stopped> {
             }
             Err(Stopped::Refused)
         }
+    }
+}
+
+fn main(rt: HostRuntime) -> ExitCode {
+    match run(&rt) {
+        Ok(()) => ExitCode::SUCCESS,
+        Err(_) => ExitCode::FAILURE,
     }
 }
 

@@ -21,7 +21,7 @@ fn check_count(steps: &[u32]) -> Result<(), Fault>
 // Refused at the first step that is no operator of the task.
 fn check_operators<T: Task>(task: &T, steps: &[u32]) -> Result<(), Fault>
     requires { length steps.now ≤ 65535 }
-    ensures { result ≡ check_known (first_unknown (meaning task.now).operators 0 steps.now) }
+    ensures { result ≡ check_known (first_unknown (T.Task.meaning task.now).operators 0 steps.now) }
 {
     let operators = task.operators();
     for (place, step) in steps.iter().enumerate() {
@@ -35,7 +35,7 @@ fn check_operators<T: Task>(task: &T, steps: &[u32]) -> Result<(), Fault>
 // The sum of the steps' costs.
 fn total<T: Task>(task: &T, steps: &[u32]) -> u64
     requires { length steps.now ≤ 65535 }
-    ensures { result ≡ price (meaning task.now) steps.now }
+    ensures { result ≡ price (T.Task.meaning task.now) steps.now }
 {
     let mut sum = 0;
     for step in steps {
@@ -57,14 +57,14 @@ fn cost_ending<'a>(unit: bool) -> &'a [u8]
 
 // The pieces of a step's line.
 fn step_pieces<'a, T: NamedTask>(task: &'a T, step: u32) -> [&'a [u8]; 3]
-    ensures { pieces result ≡ step_line (names task.now) step }
+    ensures { pieces result ≡ step_line (T.NamedTask.names task.now) step }
 {
     [b"(", task.name(step), b")\n"]
 }
 
 // Where the steps' lines end; refused where that is past the room.
 fn end_of_steps<T: NamedTask>(task: &T, steps: &[u32], room: usize) -> Result<usize, Fault>
-    ensures { result ≡ fit room (length (step_lines (names task.now) steps.now)) }
+    ensures { result ≡ fit room (length (step_lines (T.NamedTask.names task.now) steps.now)) }
 {
     let mut end = 0;
     for step in steps {
@@ -75,8 +75,8 @@ fn end_of_steps<T: NamedTask>(task: &T, steps: &[u32], room: usize) -> Result<us
 
 // Writes the steps' lines at the front of the text.
 fn put_steps<T: NamedTask>(task: &T, steps: &[u32], text: &mut [u8])
-    requires { length (step_lines (names task.now) steps.now) ≤ length text.old }
-    ensures { text.new ≡ placed text.old 0 (step_lines (names task.now) steps.now) }
+    requires { length (step_lines (T.NamedTask.names task.now) steps.now) ≤ length text.old }
+    ensures { text.new ≡ placed text.old 0 (step_lines (T.NamedTask.names task.now) steps.now) }
 {
     let mut end = 0;
     for step in steps {
@@ -92,8 +92,8 @@ fn write_lines<T: NamedTask>(
     last: &[&[u8]],
     text: &mut [u8],
 ) -> Result<usize, Fault>
-    ensures answers { result ≡ fit (length text.old) (length (step_lines (names task.now) steps.now ++ pieces last.now)) }
-    ensures buffer { text.new ≡ after result (step_lines (names task.now) steps.now ++ pieces last.now) text.old }
+    ensures answers { result ≡ fit (length text.old) (length (step_lines (T.NamedTask.names task.now) steps.now ++ pieces last.now)) }
+    ensures buffer { text.new ≡ after result (step_lines (T.NamedTask.names task.now) steps.now ++ pieces last.now) text.old }
 {
     let end = end_of_steps(task, steps, text.len())?;
     end_of_all(end, last, text.len())?;
@@ -104,8 +104,8 @@ fn write_lines<T: NamedTask>(
 // The plan's text at the front of `text`, and its length; later bytes stay. Refused where there are more
 // than 65,535 steps, at the first step that is no operator, and where the text does not fit.
 pub fn write_plan<T: NamedTask>(task: &T, steps: &[u32], text: &mut [u8]) -> Result<usize, Fault>
-    ensures answers { result ≡ answer (T.Task.meaning task.now) (names task.now) steps.now (length text.old) }
-    ensures buffer { text.new ≡ after result (plan_text (T.Task.meaning task.now) (names task.now) steps.now) text.old }
+    ensures answers { result ≡ answer (T.Task.meaning task.now) (T.NamedTask.names task.now) steps.now (length text.old) }
+    ensures buffer { text.new ≡ after result (plan_text (T.Task.meaning task.now) (T.NamedTask.names task.now) steps.now) text.old }
 {
     check_count(steps)?;
     check_operators(task, steps)?;

@@ -1,5 +1,5 @@
 -- The plans that a Vec of Vecs holds. Assumes nothing.
-use Rattle.std.proofs.Common.{◌≡◌, ℕ, ◌<◌, ◌≤◌, min, [], map, length, get_or, take, vec_items, vec_len, Vec, sym, ap, ◌∙◌, arith}
+use Rattle.std.proofs.Common.{◌≡◌, ℕ, ◌<◌, min, [], length, get_or, take, vec_items, vec_len, Vec, sym, ap, ◌∙◌, arith}
 use Rattle.std.specs.declared.alloc.Global.{Global}
 use Rattle.std.proofs.lemmas.List.{get_or-take, get_or-map, length-take, length-map}
 use Rattle.enumerate.specs.Lists.{plans_of}

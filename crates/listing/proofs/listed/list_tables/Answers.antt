@@ -6,4 +6,4 @@ pub returns : goal.returns
 returns c =
     let made = c.new-task.ensures in
     let task = c.new-task.result in
-    MatchResult-weaker c.list-task.result c.list-task.ensures (λ o e. (task_meaning task, task_names task, record { held = made.held; refused = made.refused }, e)) (λ f e. e)
+    MatchResult-weaker c.list_task.result c.list_task.ensures (λ o e. (task_meaning task, task_names task, record { held = made.held; refused = made.refused }, e)) (λ f e. e)

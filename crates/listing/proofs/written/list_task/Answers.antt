@@ -4,7 +4,7 @@ use Rattle.enumerate.specs.Found.{Found}
 use Rattle.enumerate.specs.Lists.{plans_of}
 use Rattle.listing.proofs.written.list_task.Goals as goal
 
-pub returns-in-ok-buffer : goal.returns-in-ok-buffer
-returns-in-ok-buffer g c =
-    let found = subst (Found (g.T.Task.meaning c.args.task.now) 8) c.in-Some.is c.in-ok-cheapest.ensures in
-    MatchResult-weaker c.write-plans.result c.write-plans.ensures (λ o e. inr (plans_of c.in-Some.plans, found.0, found.1, found.2, e)) (λ f e. e)
+pub returns-in_ok-buffer-in-Some : goal.returns-in_ok-buffer-in-Some
+returns-in_ok-buffer-in-Some g c =
+    let found = subst (Found (g.T.Task.meaning c.args.task.now) 8) c.in-Some.is c.in_ok-cheapest.ensures in
+    MatchResult-weaker c.write_plans.result c.write_plans.ensures (λ o e. inr (plans_of c.in-Some.plans, found.0, found.1, found.2, e)) (λ f e. e)

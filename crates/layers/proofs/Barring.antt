@@ -1,4 +1,4 @@
--- A task without one of its operators: the laws and the plans. Assumes nothing.
+-- A task without one of its operators: its plans. Assumes nothing.
 use Rattle.std.proofs.Common.{◌≡◌, ℕ, List, [], ◌∷◌, Some, sym, refl, inl, inr, ⊎_elim, arith, ne_eqb}
 use borrow.Author.Tests.{eqb-false}
 use Rattle.task.specs.Listing.{In}

@@ -1,4 +1,4 @@
--- The first newline of a file from a place on, and the parts of a line. Assumes nothing.
+-- The parts of a line. Assumes nothing.
 use Rattle.std.proofs.Common.{◌≡◌, ℕ, ◌+◌, Bool, true, false, cond, eqb, List, [], ◌∷◌, ◌++◌, Some, None, Option, refl, ap}
 use Rattle.translator.specs.Lines.{cut, onto}
 

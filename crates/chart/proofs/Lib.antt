@@ -1,7 +1,9 @@
 pub mod Charts
 pub mod Entries
 pub mod Firsts
+pub mod Hopes
 pub mod Outcomes
 pub mod Repeats
 pub mod Sorts
 pub mod Targets
+pub mod Makes

@@ -1,7 +1,8 @@
 -- Arcs that have no earlier one of their state and operator. Assumes nothing.
 use Rattle.std.proofs.Common.{◌≡◌, ℕ, ◌<◌, true, false, not, eqb, List, length, get_or, take, is_some, Some, None, sym, refl, ap, ◌∙◌, subst, ⊎_elim, arith}
+use Rattle.std.proofs.lemmas.Bool.{cases_lt}
 use Rattle.std.proofs.lemmas.List.{get_or-take, length-take-le}
-use Rattle.std.proofs.lemmas.Bool.{cases_lt, cases_order, eq-eqb, ne_eqb, both_ways}
+use Rattle.std.proofs.lemmas.Bool.{cases_order, eq-eqb, ne_eqb, both_ways}
 use Rattle.chart.specs.declared.tables.Arc.{Arc}
 use Rattle.chart.specs.Faults.{new_arc, no_arc}
 use Rattle.chart.specs.Index.{NextArc}

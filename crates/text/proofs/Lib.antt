@@ -1,3 +1,5 @@
 pub mod Figures
 pub mod Fits
+pub mod Lines
 pub mod Places
+pub mod Steps

@@ -11,8 +11,8 @@ use Rattle.translator.specs.Description.{Text, DescribedOperator, conditions_in,
 use Rattle.translator.specs.Filled.{ConditionsFilled, OperatorFilled, OperatorsFilled}
 use Rattle.translator.specs.Filling.{filled, operator_record, operator_records}
 use Rattle.translator.specs.Sections.{text_line, conditions_section, cost_line, operator_section, next_operator, none_seen, repeated}
-use Rattle.translator.proofs.Fills.{filled_more, filled-append}
-use Rattle.translator.proofs.Repeats.{repeat_on, repeat_fault, chain, stop}
+use Rattle.translator.proofs.Fills.{none_filled, filled_more, filled-append}
+use Rattle.translator.proofs.Repeats.{repeat_on, repeat_fault, repeat_done, chain, stop}
 
 -- the lines of an operator, one after the other
 pub operator_read : (unit : Bool) (sizes : List ℕ) (room : ℕ) (p : Place) {q₁ q₂ q₃ q₄ q₅ q₆ : Place} {name : Text} {s t : List Condition × List Bool} {prevail cost : ℕ} {seen : List Bool} → keyword (codes "begin_operator") p ≡ Ok (tt, q₁) → text_line q₁ ≡ Ok (name, q₂) → conditions_section Fact sizes room none_seen q₂ ≡ Ok (s, q₃) → length s.0 ≡ prevail → s.1 ≡ seen → conditions_section Effect sizes (room - prevail) seen q₃ ≡ Ok (t, q₄) → cost_line unit q₄ ≡ Ok (cost, q₅) → keyword (codes "end_operator") q₅ ≡ Ok (tt, q₆) → operator_section unit sizes room p ≡ Ok (record { name = name; prevail = s.0; effects = t.0; cost = cost }, q₆)
@@ -64,6 +64,13 @@ pub record Sofar (f : Frame) (i : ℕ) (p : Place) (operators : List Operator) (
   pub on : whole f ≡ repeated (step f) (f.count - i) os p
   pub filled_up : OperatorsFilled i f.first f.write f.operators operators f.table table used os
 
+pub none_yet : (f : Frame) → f.first ≤ length f.table → Sofar f 0 f.start f.operators f.table f.first []
+none_yet f h =
+    record {
+      on = ap (λ n. repeated (step f) n [] f.start) (omega arith);
+      filled_up = record { long = refl; ends = omega arith; within = h; laid = none_filled f.write f.operators 0; conditions = none_filled f.write f.table f.first };
+    }
+
 module _ {f : Frame} {i : ℕ} {p : Place} {operators : List Operator} {table : List Condition} {used : ℕ} {os : List DescribedOperator} (so : Sofar f i p operators table used os) (same_length : length table ≡ length f.table) where
   -- the room that the program has left is the one that the definition gives
   room_left : length table - used ≡ length f.table - f.first - length (all_conditions os)
@@ -95,3 +102,6 @@ module _ {f : Frame} {i : ℕ} {p : Place} {operators : List Operator} {table : 
 
   pub operator_fault : i < f.count → (e : Fault) → operator_section f.unit f.sizes (length table - used) p ≡ Err e → whole f ≡ Err e
   operator_fault h e reads = repeat_fault (step f) f.count i os p _ h so.on e (stop _ (subst (λ k. operator_section f.unit f.sizes k p ≡ Err e) room_left reads))
+
+  pub operators_done : i ≡ f.count → (whole f ≡ Ok (os, p)) × OperatorsFilled f.count f.first f.write f.operators operators f.table table used os
+  operators_done e = (repeat_done (step f) f.count i os p _ (omega arith) so.on, subst (λ n. OperatorsFilled n f.first f.write f.operators operators f.table table used os) e so.filled_up)

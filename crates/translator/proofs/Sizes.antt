@@ -10,8 +10,9 @@ use Rattle.translator.specs.Lines.{Place}
 use Rattle.translator.specs.Description.{DescribedVariable, sizes_in}
 use Rattle.translator.specs.Filling.{filled, variable_record, variable_records}
 use Rattle.translator.specs.Sections.{repeated, variable_section, next_variable, most_values}
-use Rattle.translator.proofs.Fills.{filled_more}
-use Rattle.translator.proofs.Repeats.{repeat_on, repeat_fault, chain, stop}
+use Rattle.translator.proofs.Fills.{none_filled, filled_more}
+use Rattle.translator.specs.Filled.{VariablesFilled}
+use Rattle.translator.proofs.Repeats.{repeat_on, repeat_fault, repeat_done, chain, stop}
 
 pub spanned-push : (ns : List ℕ) (n : ℕ) → spanned (ns ++ n ∷ []) ≡ spanned ns * n
 spanned-push [] n = mul_comm n 1
@@ -28,6 +29,19 @@ pub record Sofar (count : ℕ) (write : Bool) (table₀ : List Variable) (p₀ :
   pub laid : table ≡ filled write table₀ 0 (variable_records vs)
 
 module _ (count : ℕ) (write : Bool) (table₀ : List Variable) (p₀ : Place) where
+  pub none_yet : (sizes : List ℕ) → Sofar count write table₀ p₀ 0 p₀ sizes 1 table₀ []
+  none_yet sizes =
+      record {
+        on = ap (λ n. repeated next_variable n [] p₀) (omega arith);
+        long = refl;
+        sized = refl;
+        spans = refl;
+        positive = omega arith;
+        narrow = omega arith;
+        each = tt;
+        laid = none_filled write table₀ 0;
+      }
+
   module _ (i : ℕ) (p : Place) (sizes : List ℕ) (span : ℕ) (table : List Variable) (vs : List DescribedVariable) (so : Sofar count write table₀ p₀ i p sizes span table vs) (v : DescribedVariable) (q : Place) (n : ℕ) (reads : variable_section span p ≡ Ok (v, q)) (is : v.size ≡ n) (low : 1 ≤ n) (high : n ≤ most_values span) where
     pub fits : span * n ≤ 2 ^ 60
     fits =
@@ -56,3 +70,7 @@ module _ (count : ℕ) (write : Bool) (table₀ : List Variable) (p₀ : Place) 
 -- a variable that is refused is the list's refusal
 pub variable_fault : {count : ℕ} {write : Bool} {table₀ : List Variable} {p₀ : Place} {i : ℕ} {p : Place} {sizes : List ℕ} {span : ℕ} {table : List Variable} {vs : List DescribedVariable} → Sofar count write table₀ p₀ i p sizes span table vs → (f : Fault) → variable_section span p ≡ Err f → i < count → repeated next_variable count [] p₀ ≡ Err f
 variable_fault {count} {write} {table₀} {p₀} {i} {p} {sizes} {span} {table} {vs} so f e h = repeat_fault next_variable count i vs p _ h so.on f (stop _ (subst (λ s. variable_section s p ≡ Err f) so.spans e))
+
+pub variables_done : {count : ℕ} {write : Bool} {table₀ : List Variable} {p₀ : Place} {i : ℕ} {p : Place} {sizes : List ℕ} {span : ℕ} {table : List Variable} {vs : List DescribedVariable} → Sofar count write table₀ p₀ i p sizes span table vs → i ≡ count → (repeated next_variable count [] p₀ ≡ Ok (vs, p)) × VariablesFilled count write table₀ sizes table vs
+variables_done {count} {write} {table₀} {p₀} {i} {p} {sizes} {span} {table} {vs} so e =
+    (repeat_done next_variable count i vs p _ (omega arith) so.on, record { sized = subst (λ k. take k sizes ≡ sizes_in vs) e so.sized; laid = so.laid; sound = record { each = so.each; narrow = subst (λ m. m ≤ 2 ^ 60) so.spans so.narrow } })

@@ -1,6 +1,6 @@
 use Rattle.std.proofs.Common.{◌+◌, ◌-◌, ◌*◌, ◌≤◌, get_or, refl, ap, arith}
 use Rattle.translator.proofs.Repeats.{finds_fault}
-use Rattle.translator.proofs.Starts.{fits, one_more, value_fault}
+use Rattle.translator.proofs.Starts.{fits, one_more, value_fault, values_done}
 use Rattle.translator.proofs.cursor.Reader.start_values.Goals as goal
 use Rattle.translator.proofs.cursor.Reader.start_values.Goals.{In_ok-value}
 
@@ -34,3 +34,8 @@ loop-at-preserved c = (
   _,
   one_more _ _ c.loop-at.invariant.2 c.loop-at-test.true _ (small (goal.at.loop-at-preserved c).In_ok-value) _ refl _ (rw c.saturating_sub.ensures at c.in_ok-value.ensures.tells) _ _ (ap (λ v. c.loop-at.number + c.loop-at.weight * v) c.from.ensures) (ap (λ v. c.loop-at.weight * v) c.from-weight.ensures),
 )
+
+pub returns : goal.returns
+returns c =
+    let done = values_done _ _ c.loop-at.invariant.2 c.loop-at-test.false in
+    (c.loop-at.invariant.1, done.0, done.1)

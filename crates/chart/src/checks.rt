@@ -7,7 +7,7 @@ ghost use Rattle.chart.specs.Tables.{contents, hope, name_start};
 
 use crate::index::next_arc;
 use crate::tables::{Arc, ChartTables, Entry};
-use task::{Fault, Kind};
+use task::{Fault, Kind, Layer};
 
 // An estimate of this number means that a state is hopeless.
 const HOPELESS: u32 = 4294967295;
@@ -23,7 +23,7 @@ pub(crate) fn check_lengths(tables: ChartTables) -> Result<(), Fault>
     if few_states && few_operators && tables.arcs.len() <= 65535 {
         Ok(())
     } else {
-        Err(Fault::chart(Kind::OverLimit, 0))
+        Err(Layer::Chart.fault(Kind::OverLimit, 0))
     }
 }
 
@@ -34,7 +34,7 @@ fn check_start(tables: ChartTables) -> Result<(), Fault>
     if (tables.start as usize) < tables.goals.len() {
         Ok(())
     } else {
-        Err(Fault::chart(Kind::OutOfRange, 0))
+        Err(Layer::Chart.fault(Kind::OutOfRange, 0))
     }
 }
 
@@ -52,7 +52,7 @@ fn check_costs(costs: &[u32]) -> Result<(), Fault>
 {
     for i in 0..costs.len() {
         if !is_cost(costs[i]) {
-            return Err(Fault::chart(Kind::OutOfRange, i as u32));
+            return Err(Layer::Chart.fault(Kind::OutOfRange, i as u32));
         }
     }
     Ok(())
@@ -81,7 +81,7 @@ fn check_ends(bytes: usize, ends: &[usize]) -> Result<(), Fault>
 {
     for i in 0..ends.len() {
         if !is_end(bytes, ends, i) {
-            return Err(Fault::chart(Kind::OutOfRange, i as u32));
+            return Err(Layer::Chart.fault(Kind::OutOfRange, i as u32));
         }
     }
     Ok(())
@@ -103,7 +103,7 @@ fn check_arcs(states: usize, operators: usize, arcs: &[Arc]) -> Result<(), Fault
 {
     for i in 0..arcs.len() {
         if !is_in_range(states, operators, arcs[i]) {
-            return Err(Fault::chart(Kind::OutOfRange, i as u32));
+            return Err(Layer::Chart.fault(Kind::OutOfRange, i as u32));
         }
     }
     Ok(())
@@ -148,7 +148,7 @@ fn check_repeats(arcs: &[Arc], index: &[Entry]) -> Result<(), Fault>
 {
     for i in 0..arcs.len() {
         if !is_new(arcs, index, i) {
-            return Err(Fault::chart(Kind::ArcRepeated, i as u32));
+            return Err(Layer::Chart.fault(Kind::ArcRepeated, i as u32));
         }
     }
     Ok(())
@@ -202,7 +202,7 @@ fn check_goals(goals: &[bool], estimates: &[u32]) -> Result<(), Fault>
 {
     for i in 0..goals.len() {
         if !is_aware(goals, estimates, i) {
-            return Err(Fault::chart(Kind::EstimateLaw, i as u32));
+            return Err(Layer::Chart.fault(Kind::EstimateLaw, i as u32));
         }
     }
     Ok(())
@@ -238,7 +238,7 @@ fn check_estimates(tables: ChartTables) -> Result<(), Fault>
 {
     for i in 0..tables.arcs.len() {
         if !is_lawful(tables, tables.arcs[i]) {
-            return Err(Fault::chart(Kind::EstimateLaw, i as u32));
+            return Err(Layer::Chart.fault(Kind::EstimateLaw, i as u32));
         }
     }
     Ok(())

@@ -2,7 +2,7 @@
 // and tables that are large or wrong.
 use super::*;
 use std::test::Fail;
-use task::{Fault, Kind, NamedTask, Task};
+use task::{Fault, Kind, Layer, NamedTask, Task};
 
 static ARCS: [Arc; 3] = [
     Arc {
@@ -58,7 +58,7 @@ fn an_arc_is_repeated(rt: HostRuntime) -> Result<(), Fail> {
     let wrong = tables(&[false, false, true], &[3, 3, 0], &arcs);
     assert_eq!(rt;
         Chart::check(rt.alloc(), wrong),
-        Err(Fault::chart(Kind::ArcRepeated, 2))
+        Err(Layer::Chart.fault(Kind::ArcRepeated, 2))
     );
     let chart = Chart::new(rt.alloc(), wrong)?;
     assert_eq!(rt; chart.span(), 1);
@@ -70,7 +70,7 @@ fn an_estimate_is_too_large(rt: HostRuntime) {
     let wrong = tables(&[false, false, true], &[4, 3, 0], &ARCS);
     assert_eq!(rt;
         Chart::check(rt.alloc(), wrong),
-        Err(Fault::chart(Kind::EstimateLaw, 1))
+        Err(Layer::Chart.fault(Kind::EstimateLaw, 1))
     );
 }
 

@@ -4,7 +4,7 @@ ghost use Rattle.layers.specs.Layers.{required_check, required_made, required_me
 ghost use Rattle.layers.specs.Required.{used_after};
 ghost use Rattle.layers.specs.RequiredLaws.{made_lawful, made_nameless};
 
-use task::{Fault, Kind, NamedTask, Task};
+use task::{Fault, Kind, Layer, NamedTask, Task};
 
 #[derive(Drop)]
 pub struct Required<'a, T> {
@@ -27,7 +27,7 @@ impl<'a, T: Task> Required<'a, T> {
         if doubles(task) {
             Ok(())
         } else {
-            Err(Fault::pile(Kind::SpanTooWide))
+            Err(Layer::Pile.fault(Kind::SpanTooWide, 0))
         }
     }
 

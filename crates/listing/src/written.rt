@@ -8,7 +8,7 @@ ghost use Rattle.listing.specs.Listed.{written};
 use crate::output::Output;
 use enumerate::cheapest;
 use std::alloc::Global;
-use task::{Fault, Kind, NamedTask};
+use task::{Fault, Kind, Layer, NamedTask};
 use text::{write_plan, write_refusal};
 
 // Plans are looked for up to this price.
@@ -84,7 +84,7 @@ pub(crate) fn list_task<T: NamedTask>(heap: Global, task: &T) -> Result<Output, 
     ensures { MatchResult result (λ o. Outcome 8 (T.Task.meaning task.now) (T.NamedTask.names task.now) (written o)) (λ f. f ≡ no_memory) }
 {
     match cheapest(heap, task, HIGHEST)? {
-        None => refusal(heap, Fault::session(Kind::Unfinished)),
+        None => refusal(heap, Layer::Session.fault(Kind::Unfinished, 0)),
         Some(plans) => {
             let mut buffer = vec![in heap; 0; 65536]?;
             write_plans(heap, task, &plans, &mut buffer)

@@ -3,7 +3,7 @@ ghost use Rattle.std.specs.Prelude.{◌≡◌};
 ghost use Rattle.tally.specs.Share.{shared, Shares};
 
 use crate::pairs::Pair;
-use task::{Fault, Kind};
+use task::{Fault, Kind, Layer};
 
 // The greatest number up to which every whole number is a float.
 const EXACT: u64 = 9_007_199_254_740_992;
@@ -14,10 +14,10 @@ pub fn share(pair: Pair) -> Result<f64, Fault>
     ensures between { Shares pair result }
 {
     if pair.all == 0 || pair.all < pair.with {
-        return Err(Fault::session(Kind::BadNumber));
+        return Err(Layer::Session.fault(Kind::BadNumber, 0));
     }
     if EXACT < pair.all {
-        return Err(Fault::session(Kind::TooMany));
+        return Err(Layer::Session.fault(Kind::TooMany, 0));
     }
     Ok(pair.with as f64 / pair.all as f64)
 }

@@ -3,7 +3,7 @@ use crate::pairs::Pair;
 use crate::plans::value_of;
 use crate::shares::share;
 use crate::tallies::{Count, Tally, Watch};
-use task::{Fault, Kind};
+use task::{Fault, Kind, Layer};
 
 #[test]
 fn counts_are_cut(rt: HostRuntime) {
@@ -27,7 +27,7 @@ fn shares(rt: HostRuntime) {
 
 #[test]
 fn no_share(rt: HostRuntime) {
-    let no_pair = Err(Fault::session(Kind::BadNumber));
+    let no_pair = Err(Layer::Session.fault(Kind::BadNumber, 0));
     assert_eq!(rt; share(Pair { all: 0, with: 0 }), no_pair);
     assert_eq!(rt; share(Pair { all: 1, with: 2 }), no_pair);
     let exact = 9_007_199_254_740_992;
@@ -43,6 +43,6 @@ fn no_share(rt: HostRuntime) {
             all: exact + 1,
             with: 1,
         }),
-        Err(Fault::session(Kind::TooMany))
+        Err(Layer::Session.fault(Kind::TooMany, 0))
     );
 }

@@ -1,5 +1,5 @@
 -- Lists of all of a kind, in order: how they are made, and that there is one. Assumes nothing.
-use Rattle.std.proofs.Common.{◌≡◌, ℕ, ◌<◌, ◌⊎◌, List, [], ◌∷◌, ◌++◌, map, sym, refl, ap, subst, ap₂, inl, inr, ⊎_elim, arith}
+use Rattle.std.proofs.Common.{◌≡◌, ℕ, ◌⊎◌, List, [], ◌∷◌, ◌++◌, map, sym, refl, subst, ap₂, inl, inr, ⊎_elim, arith}
 use Rattle.task.specs.Listing.{Each, In, Ascending, AllOf}
 use Rattle.task.specs.Order.{Before}
 use Rattle.task.proofs.Members.{each_weaker, each_both, each_append, each_in, in_left, in_right, in_map, each_map}

@@ -1,5 +1,5 @@
 -- Members of lists of which each member is of a kind. Assumes nothing.
-use Rattle.std.proofs.Common.{◌≡◌, ℕ, zero, suc, ◌<◌, List, [], ◌∷◌, ◌++◌, map, length, get_or, take, drop, sym, ap, subst, inl, inr, arith}
+use Rattle.std.proofs.Common.{ℕ, zero, suc, ◌<◌, List, [], ◌∷◌, ◌++◌, map, length, get_or, take, drop, sym, ap, subst, inl, inr, arith}
 use Rattle.task.specs.Listing.{Each, In}
 
 module _ {A : Type 0} (P : A → Type 0) where

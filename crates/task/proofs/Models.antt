@@ -1,5 +1,5 @@
 -- What the laws of a task say of its outside. Assumes nothing.
-use Rattle.std.proofs.Common.{◌≡◌, ℕ, ◌<◌, ◌≤◌, Some, None, Option, refl, ⊎_elim, arith}
+use Rattle.std.proofs.Common.{◌≡◌, ℕ, ◌≤◌, Some, None, Option, refl, arith}
 use Rattle.task.specs.Model.{Model, Lawful}
 
 -- an operator number of n or more leads nowhere

@@ -1,5 +1,5 @@
 -- The empty task keeps the laws. Assumes nothing.
-use Rattle.std.proofs.Common.{◌≡◌, true, false, Some, None, refl, arith}
+use Rattle.std.proofs.Common.{refl, arith}
 use Rattle.task.specs.Model.{Lawful}
 use Rattle.task.specs.Nothing.{nothing}
 

@@ -2,31 +2,51 @@
 ghost use Rattle.std.specs.Prelude.{◌≡◌};
 ghost use Rattle.task.specs.Numbers.{number_of};
 ghost use Rattle.task.specs.declared.faults.Kind.TheVariants.{NoMemory};
-ghost use Rattle.task.specs.declared.faults.Layer.TheVariants.{Reading, Chart, Pile, Session, Text, Memory};
+ghost use Rattle.task.specs.declared.faults.Layer.TheVariants.{Memory};
 
 use std::alloc::{AllocError, AllocFailed};
+use thiserror::Error;
 
 // What is wrong. The first eighteen have a number each; want of memory has none.
-#[derive(Clone, Copy, Debug, PartialEq, Eq)]
+#[derive(Clone, Copy, Debug, PartialEq, Eq, Error)]
 pub enum Kind {
+    #[error("the file stops before it is complete")]
     EndsEarly,
+    #[error("a fixed word is wrong")]
     WrongWord,
+    #[error("a number is ill-written or not allowed")]
     BadNumber,
+    #[error("a form that is not handled")]
     NotCarried,
+    #[error("a variable stands twice in the goal or in an operator")]
     VariableTwice,
+    #[error("something is over a limit or does not fit its table")]
     OverLimit,
+    #[error("bytes follow the end of the file")]
     BytesAfterEnd,
+    #[error("a number names something that is not there")]
     OutOfRange,
+    #[error("two moves are given for one state and operator")]
     ArcRepeated,
+    #[error("an estimate breaks a law")]
     EstimateLaw,
+    #[error("the span is too wide to be doubled")]
     SpanTooWide,
+    #[error("the search has not gone far enough")]
     Unfinished,
+    #[error("the tables of the search are full")]
     Full,
+    #[error("there is no plan")]
     NoPlan,
+    #[error("no cheapest plan has this number")]
     PastEnd,
+    #[error("the buffer is too short")]
     BufferShort,
+    #[error("a number is too large to be told exactly")]
     TooMany,
+    #[error("the search was opened with another task")]
     NotThisTask,
+    #[error("out of memory")]
     NoMemory,
 }
 
@@ -42,7 +62,8 @@ pub enum Layer {
 }
 
 // The place is a line (from 1), a record or a step (from 0), or 0 where there is none.
-#[derive(Clone, Copy, Debug, PartialEq, Eq)]
+#[derive(Clone, Copy, Debug, PartialEq, Eq, Error)]
+#[error("{kind}, at {place}")]
 pub struct Fault {
     pub kind: Kind,
     pub place: u32,
@@ -78,71 +99,25 @@ impl Kind {
     }
 }
 
+impl Layer {
+    // A fault that the layer met.
+    pub fn fault(self, kind: Kind, place: u32) -> Fault
+        ensures { result ≡ record { kind = kind; place = place; layer = self } }
+    {
+        Fault {
+            kind,
+            place,
+            layer: self,
+        }
+    }
+}
+
 impl Fault {
-    // A fault of a file, at a line.
-    pub fn reading(kind: Kind, line: u32) -> Fault
-        ensures { result ≡ record { kind = kind; place = line; layer = Reading } }
-    {
-        Fault {
-            kind,
-            place: line,
-            layer: Layer::Reading,
-        }
-    }
-
-    // A fault of plan text, at a step.
-    pub fn text(kind: Kind, step: u32) -> Fault
-        ensures { result ≡ record { kind = kind; place = step; layer = Text } }
-    {
-        Fault {
-            kind,
-            place: step,
-            layer: Layer::Text,
-        }
-    }
-
-    // A fault of a chart's tables, at a record.
-    pub fn chart(kind: Kind, record: u32) -> Fault
-        ensures { result ≡ record { kind = kind; place = «record»; layer = Chart } }
-    {
-        Fault {
-            kind,
-            place: record,
-            layer: Layer::Chart,
-        }
-    }
-
-    // A fault of a layer over a task.
-    pub fn pile(kind: Kind) -> Fault
-        ensures { result ≡ record { kind = kind; place = 0; layer = Pile } }
-    {
-        Fault {
-            kind,
-            place: 0,
-            layer: Layer::Pile,
-        }
-    }
-
-    // A fault of a search, or of a tally's call.
-    pub fn session(kind: Kind) -> Fault
-        ensures { result ≡ record { kind = kind; place = 0; layer = Session } }
-    {
-        Fault {
-            kind,
-            place: 0,
-            layer: Layer::Session,
-        }
-    }
-
     // Want of memory.
     pub fn memory() -> Fault
         ensures { result ≡ record { kind = NoMemory; place = 0; layer = Memory } }
     {
-        Fault {
-            kind: Kind::NoMemory,
-            place: 0,
-            layer: Layer::Memory,
-        }
+        Layer::Memory.fault(Kind::NoMemory, 0)
     }
 }
 

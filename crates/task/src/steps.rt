@@ -6,19 +6,5 @@ ghost use Rattle.task.specs.Order.{Earlier};
 pub fn earlier<'a>(first: &'a [u32], second: &'a [u32]) -> &'a [u32]
     ensures { Earlier first.entry second.entry result }
 {
-    let mut at = 0;
-    while at < first.len() && at < second.len() {
-        if first[at] < second[at] {
-            return first;
-        }
-        if second[at] < first[at] {
-            return second;
-        }
-        at += 1;
-    }
-    if second.len() < first.len() {
-        second
-    } else {
-        first
-    }
+    if second < first { second } else { first }
 }

@@ -37,13 +37,10 @@ pub trait Task {
     fn next_move(&self, state: u64, from: u32) -> Option<(u32, u64)>
         ensures { FirstMove (meaning self.now) state from result }
     {
-        let operators = self.operators();
-        let mut operator = from;
-        while operator < operators {
+        for operator in from..self.operators() {
             if let Some(target) = self.step(state, operator) {
                 return Some((operator, target));
             }
-            operator += 1;
         }
         None
     }

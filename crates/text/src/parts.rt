@@ -2,7 +2,7 @@
 ghost use Rattle.std.specs.Prelude.{◌≡◌, ◌+◌, ◌≤◌, length};
 ghost use Rattle.text.specs.Buffer.{after, fit, pieces, placed};
 
-use task::{Fault, Kind};
+use task::{Fault, Kind, Layer};
 
 // Where `length` more bytes end; refused where that is past the room.
 fn end_of(at: usize, length: usize, room: usize) -> Result<usize, Fault>
@@ -10,7 +10,7 @@ fn end_of(at: usize, length: usize, room: usize) -> Result<usize, Fault>
     ensures { result ≡ fit room (at + length) }
 {
     if room - at < length {
-        return Err(Fault::text(Kind::BufferShort, 0));
+        return Err(Layer::Text.fault(Kind::BufferShort, 0));
     }
     Ok(at + length)
 }

@@ -6,14 +6,14 @@ ghost use Rattle.text.specs.PlanText.{answer, check_count, check_known, cost_end
 
 use super::digits::spell;
 use super::parts::{end_of_all, put_all};
-use task::{Fault, Kind, NamedTask, Task};
+use task::{Fault, Kind, Layer, NamedTask, Task};
 
 // Refused where there are more than 65,535 steps.
 fn check_count(steps: &[u32]) -> Result<(), Fault>
     ensures { result ≡ check_count steps.now }
 {
     if steps.len() > 65535 {
-        return Err(Fault::text(Kind::OverLimit, 0));
+        return Err(Layer::Text.fault(Kind::OverLimit, 0));
     }
     Ok(())
 }
@@ -26,7 +26,7 @@ fn check_operators<T: Task>(task: &T, steps: &[u32]) -> Result<(), Fault>
     let operators = task.operators();
     for (place, step) in steps.iter().enumerate() {
         if *step >= operators {
-            return Err(Fault::text(Kind::OutOfRange, place as u32));
+            return Err(Layer::Text.fault(Kind::OutOfRange, place as u32));
         }
     }
     Ok(())

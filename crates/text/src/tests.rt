@@ -4,7 +4,7 @@ ghost use Rattle.std.proofs.Common.{rules};
 
 use super::{write_plan, write_refusal};
 use std::test::Fail;
-use task::{Fault, Kind, NamedTask, Task};
+use task::{Fault, Kind, Layer, NamedTask, Task};
 
 struct Two;
 
@@ -79,7 +79,7 @@ fn refuses_an_unknown_step(rt: HostRuntime) -> Result<(), Fail> {
 #[test]
 fn writes_a_refusal(rt: HostRuntime) {
     let mut text = [b'.'; 20];
-    let fault = Fault::reading(Kind::BadNumber, 120);
+    let fault = Layer::Reading.fault(Kind::BadNumber, 120);
     assert_eq!(rt; write_refusal(fault, &mut text).ok(), Some(17));
     assert_eq!(rt; text, *b"refused 3 at 120\n...");
 }

@@ -6,7 +6,7 @@ ghost use Rattle.translator.specs.Readers.{place_of};
 ghost use Rattle.translator.specs.Sections.{number_within, number_line, text_line, version_section, metric_section, layer_line, repeated, value_line, file_end};
 
 use crate::cursor::Reader;
-use task::{Fault, Kind};
+use task::{Fault, Kind, Layer};
 
 // The least and the greatest number allowed, and what is wrong with a smaller and with a greater one.
 #[derive(Clone, Copy)]
@@ -108,7 +108,7 @@ impl<'a> Reader<'a> {
         ensures { Tells (λ v. tt) (file_end (place_of self.old)) result (place_of self.new) }
     {
         if self.next < self.bytes.len() {
-            return Err(Fault::reading(Kind::BytesAfterEnd, self.line + 1));
+            return Err(Layer::Reading.fault(Kind::BytesAfterEnd, self.line + 1));
         }
         Ok(())
     }

@@ -11,7 +11,7 @@ ghost use Rattle.translator.specs.Taken.{Taken};
 use crate::cursor::Reader;
 use crate::fields::Bounds;
 use sas::{Condition, Operator, Reading, Variable};
-use task::{Fault, Kind};
+use task::{Fault, Kind, Layer};
 
 impl<'a> Reader<'a> {
     // Their number, and then the variables.
@@ -128,7 +128,7 @@ pub fn read(
     ensures { Taken bytes.now variables.old variables.new operators.old operators.new conditions.old conditions.new result }
 {
     if bytes.len() > 65_536 {
-        return Err(Fault::reading(Kind::OverLimit, 0));
+        return Err(Layer::Reading.fault(Kind::OverLimit, 0));
     }
     let mut checking = Reader::new(bytes);
     checking.file(variables, operators, conditions, false)?;

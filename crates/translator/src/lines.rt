@@ -7,7 +7,7 @@ ghost use Rattle.translator.specs.Readers.{place_of};
 
 use crate::cursor::Reader;
 use crate::numerals::{numeral, same_bytes, signed};
-use task::{Fault, Kind};
+use task::{Fault, Kind, Layer};
 
 // How many bytes from `from` on stand before the first newline, if there is one.
 fn newline(bytes: &[u8], from: usize) -> Option<usize>
@@ -44,7 +44,7 @@ impl<'a> Reader<'a> {
     pub(crate) fn fault(&self, kind: Kind) -> Fault
         ensures { result ≡ fault_at kind self.now.line }
     {
-        Fault::reading(kind, self.line)
+        Layer::Reading.fault(kind, self.line)
     }
 
     // Goes on to the next line, and answers it without its newline.
@@ -55,7 +55,7 @@ impl<'a> Reader<'a> {
         let bytes = self.bytes;
         let start = self.next;
         let Some(count) = newline(bytes, start) else {
-            return Err(Fault::reading(Kind::EndsEarly, self.line + 1));
+            return Err(Layer::Reading.fault(Kind::EndsEarly, self.line + 1));
         };
         self.place = start;
         self.next = start + count + 1;

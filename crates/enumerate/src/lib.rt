@@ -1,20 +1,19 @@
 // All plans of one price, and the cheapest plans, by plain enumeration: what a search is compared with.
 #![tactic(auto)]
 
-ghost use Rattle.std.specs.Prelude.{◌≡◌, ℕ, List, ◌∷◌, ◌++◌, map, vec_items, MatchResult};
+ghost use Rattle.std.specs.Prelude.{◌≡◌, ℕ, List, ◌∷◌, ◌++◌, map, vec_items, IfOk};
 ghost use Rattle.task.specs.Listing.{AllOf};
 ghost use Rattle.task.specs.Order.{Before};
 ghost use Rattle.enumerate.specs.Completes.{Completes, CompletesBelow};
 ghost use Rattle.enumerate.specs.Found.{Found};
 ghost use Rattle.enumerate.specs.Lists.{plans_of};
-ghost use Rattle.enumerate.specs.Refusal.{no_memory};
 
-use std::alloc::Global;
-use task::{Fault, Task};
+use std::alloc::{AllocError, Global};
+use task::Task;
 
 // The operator, then the steps of `tail`. Refuses only for want of memory.
-fn led_by(heap: Global, operator: u32, tail: &[u32]) -> Result<Vec<u32>, Fault>
-    ensures { MatchResult result (λ v. v.items ≡ operator ∷ tail.now) (λ f. f ≡ no_memory) }
+fn led_by(heap: Global, operator: u32, tail: &[u32]) -> Result<Vec<u32>, AllocError>
+    ensures { IfOk result (λ v. v.items ≡ operator ∷ tail.now) }
 {
     let mut list = Vec::new(heap);
     list.push(operator)?;
@@ -28,8 +27,8 @@ fn append_led(
     plans: &mut Vec<Vec<u32>>,
     operator: u32,
     tails: &[Vec<u32>],
-) -> Result<(), Fault>
-    ensures { MatchResult result (λ _. plans_of plans.new ≡ plans_of plans.old ++ map (λ (os : List ℕ). operator ∷ os) (map vec_items tails.now)) (λ f. f ≡ no_memory) }
+) -> Result<(), AllocError>
+    ensures { IfOk result (λ _. plans_of plans.new ≡ plans_of plans.old ++ map (λ (os : List ℕ). operator ∷ os) (map vec_items tails.now)) }
 {
     for tail in tails {
         plans.push(led_by(heap, operator, tail.as_slice())?)?;
@@ -44,8 +43,8 @@ fn empty_if_done<T: Task>(
     task: &T,
     state: u64,
     price: u32,
-) -> Result<Vec<Vec<u32>>, Fault>
-    ensures { MatchResult result (λ v. AllOf Before (CompletesBelow (T.Task.meaning task.now) state price 0) (plans_of v)) (λ f. f ≡ no_memory) }
+) -> Result<Vec<Vec<u32>>, AllocError>
+    ensures { IfOk result (λ v. AllOf Before (CompletesBelow (T.Task.meaning task.now) state price 0) (plans_of v)) }
 {
     let mut plans = Vec::new(heap);
     if price == 0 && task.is_goal(state) {
@@ -61,8 +60,8 @@ pub fn completions<T: Task>(
     task: &T,
     state: u64,
     price: u32,
-) -> Result<Vec<Vec<u32>>, Fault>
-    ensures { MatchResult result (λ v. AllOf Before (Completes (T.Task.meaning task.now) state price) (plans_of v)) (λ f. f ≡ no_memory) }
+) -> Result<Vec<Vec<u32>>, AllocError>
+    ensures { IfOk result (λ v. AllOf Before (Completes (T.Task.meaning task.now) state price) (plans_of v)) }
 {
     let mut plans = empty_if_done(heap, task, state, price)?;
     let mut from = 0;
@@ -83,8 +82,8 @@ pub fn cheapest<T: Task>(
     heap: Global,
     task: &T,
     highest: u32,
-) -> Result<Option<Vec<Vec<u32>>>, Fault>
-    ensures { MatchResult result (Found (T.Task.meaning task.now) highest) (λ f. f ≡ no_memory) }
+) -> Result<Option<Vec<Vec<u32>>>, AllocError>
+    ensures { IfOk result (Found (T.Task.meaning task.now) highest) }
 {
     let start = task.start();
     for price in 0..=highest {

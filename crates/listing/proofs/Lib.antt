@@ -1,4 +1,2 @@
-pub mod Exits
-pub mod Held
 pub mod Lines
 pub mod Plans

@@ -1,5 +1,5 @@
 -- The line of a refusal is short. Assumes nothing.
-use Rattle.std.proofs.Common.{◌≡◌, ℕ, ◌-◌, ◌^◌, ◌<◌, ◌≤◌, List, [], ◌++◌, length, take, drop, IfSome, Some, None, Ok, Err, codes, decimal, Option, Result, sym, ap, ◌∙◌, arith}
+use Rattle.std.proofs.Common.{◌≡◌, ℕ, ◌^◌, ◌<◌, ◌≤◌, List, ◌++◌, length, take, drop, IfSome, Some, None, Ok, Err, codes, decimal, Option, Result, sym, ap, ◌∙◌, arith}
 use Rattle.std.proofs.lemmas.Fmt.{length-decimal-le}
 use Rattle.std.proofs.lemmas.List.{length-append, take_at}
 use Rattle.std.proofs.lemmas.Bool.{cond-false, le-ltb}
@@ -61,9 +61,5 @@ pub line_length : (f : Fault) (end : ℕ) → f.place < 2 ^ 32 → Ok end ≡ fi
 line_length f end h p = ok_is end _ _ p (line_fits f h)
 
 -- the front of a buffer that begins with a text, as a slice has it
-pub front_of : (end : ℕ) (text old buffer : List ℕ) → end ≡ length text → buffer ≡ text ++ drop end old → take (end - 0) buffer ≡ text
-front_of end text old buffer e b = ap (λ k. take k buffer) (omega arith) ∙ ap (take end) b ∙ take_at text (drop end old) end (sym e)
-
--- a text put into a list that was empty
-pub put_first : (items old part text : List ℕ) → items ≡ old ++ part → old ≡ [] → part ≡ text → items ≡ text
-put_first items old part text e z p = e ∙ ap (λ l. l ++ part) z ∙ p
+pub front_of : (end : ℕ) (text old buffer : List ℕ) → end ≡ length text → buffer ≡ text ++ drop end old → take end buffer ≡ text
+front_of end text old buffer e b = ap (take end) b ∙ take_at text (drop end old) end (sym e)

@@ -1,7 +1,7 @@
 -- One plan behind what is written, and all of them. Assumes nothing.
-use Rattle.std.proofs.Common.{◌≡◌, ℕ, ◌+◌, ◌<◌, ◌≤◌, Bool, true, false, cond, ltb, List, [], ◌∷◌, ◌++◌, length, get_or, drop, Ok, Err, Result, sym, ap, ◌∙◌}
-use Rattle.std.proofs.lemmas.List.{append_assoc, append-nil, drop_more, drop_all}
-use Rattle.std.proofs.lemmas.Bool.{true≢false}
+use Rattle.std.proofs.Common.{◌≡◌, ℕ, zero, suc, ◌+◌, ◌<◌, Bool, true, false, cond, ltb, List, [], ◌∷◌, ◌++◌, length, Some, None, Ok, Err, Option, Result, Vec, map, take, vec_items, is_some, refl, arith, sym, ap, ◌∙◌}
+use Rattle.std.specs.declared.alloc.Global.{Global}
+use Rattle.std.proofs.lemmas.List.{append_assoc, append-nil}
 use Rattle.task.specs.Model.{Model}
 use Rattle.task.specs.Names.{Names}
 use Rattle.task.specs.declared.faults.Fault.{Fault}
@@ -25,20 +25,20 @@ pub answer_length : (m : Model) (n : Names) (steps : List ℕ) (room end : ℕ) 
 answer_length m n steps room end e = then_ok (check_count steps) (check_known (first_unknown m.operators 0 steps)) room (length (plan_text m n steps)) end e
 
 module _ (m : Model) (n : Names) (steps before after part : List ℕ) (room : ℕ) (wide : room ≡ 65536) where
-  pub added_ok : (end : ℕ) → Ok end ≡ answer m n steps room → after ≡ before ++ part → part ≡ plan_text m n steps → Added m n steps before after true
+  pub added_ok : (end : ℕ) → Ok end ≡ answer m n steps room → after ≡ before ++ part → part ≡ plan_text m n steps → Added m n steps before after None
   added_ok end e a p =
       let is : answer m n steps 65536 ≡ Ok end = ap (answer m n steps) (sym wide) ∙ sym e in
       record {
         text = a ∙ ap (λ t. before ++ t) (p ∙ ap (λ r. (added r (plan_text m n steps)).0) (sym is));
-        goes_on = ap (λ r. (added r (plan_text m n steps)).1) (sym is);
+        ends = ap (λ r. (added r (plan_text m n steps)).1) (sym is);
       }
 
-  pub added_err : (f : Fault) → Err f ≡ answer m n steps room → after ≡ before ++ part → part ≡ refusal_line f → Added m n steps before after false
+  pub added_err : (f : Fault) → Err f ≡ answer m n steps room → after ≡ before ++ part → part ≡ refusal_line f → Added m n steps before after (Some f)
   added_err f e a p =
       let is : answer m n steps 65536 ≡ Err f = ap (answer m n steps) (sym wide) ∙ sym e in
       record {
         text = a ∙ ap (λ t. before ++ t) (p ∙ ap (λ r. (added r (plan_text m n steps)).0) (sym is));
-        goes_on = ap (λ r. (added r (plan_text m n steps)).1) (sym is);
+        ends = ap (λ r. (added r (plan_text m n steps)).1) (sym is);
       }
 
 -- a text in front of what follows
@@ -46,29 +46,42 @@ abbrev pub behind : List ℕ → Written → Written
 behind t w = (t ++ w.0, w.1)
 
 module _ (m : Model) (n : Names) where
-  pub record Sofar (qs : List (List ℕ)) (i : ℕ) (text : List ℕ) : Type 0 where
-    pub on : texts m n qs ≡ behind text (texts m n (drop i qs))
+  -- what is written of all plans is the text so far in front of what is written of the rest
+  pub record Sofar (all rest : List (List ℕ)) (text : List ℕ) : Type 0 where
+    pub on : texts m n all ≡ behind text (texts m n rest)
 
-  pub none_yet : (qs : List (List ℕ)) (text : List ℕ) → text ≡ [] → Sofar qs 0 text
-  none_yet qs text e = record { on = ap (λ t. behind t (texts m n qs)) (sym e) }
+  pub first_hundred : {count : ℕ} {all xs : List (Vec ℕ Global)} → count ≡ 100 → xs ≡ all → (text : List ℕ) → text ≡ [] → Sofar (take 100 (map vec_items all)) (take count (map vec_items xs)) text
+  first_hundred {count} {all} {xs} c e text t =
+      record { on = ap (λ u. behind u (texts m n (take 100 (map vec_items all)))) (sym t) ∙ ap (λ k. behind text (texts m n (take k (map vec_items all)))) (sym c) ∙ ap (λ l. behind text (texts m n (take count (map vec_items l)))) (sym e) }
 
-  module _ {qs : List (List ℕ)} {i : ℕ} {text : List ℕ} (so : Sofar qs i text) (steps : List ℕ) (here : i < length qs) (is : steps ≡ get_or qs i []) (text' : List ℕ) where
-    next : texts m n qs ≡ behind text (in_front (answer m n steps 65536) (plan_text m n steps) (texts m n (drop (i + 1) qs)))
-    next = so.on ∙ ap (λ l. behind text (texts m n l)) (drop_more qs i [] here) ∙ ap (λ os. behind text (texts m n (os ∷ drop (i + 1) qs))) (sym is)
+  module _ {all : List (List ℕ)} (os : List ℕ) (rest : List (List ℕ)) {text : List ℕ} (so : Sofar all (os ∷ rest) text) {text' : List ℕ} where
+    goes_on : (r : Result ℕ Fault) (end : Option Fault) → false ≡ is_some end → text' ≡ text ++ (added r (plan_text m n os)).0 → end ≡ (added r (plan_text m n os)).1 → behind text (in_front r (plan_text m n os) (texts m n rest)) ≡ behind text' (texts m n rest)
+    goes_on (Ok k) end f t g = ap (λ l. (l, (texts m n rest).1)) (sym (append_assoc text (plan_text m n os) (texts m n rest).0) ∙ ap (λ l. l ++ (texts m n rest).0) (sym t))
+    goes_on (Err e) None f t g = absurd cc
+    goes_on (Err e) (Some d) f t g = absurd cc
 
-    pub one_more : (more : Bool) → more ≡ true → Added m n steps text text' more → Sofar qs (i + 1) text'
-    one_more more goes a = record { on = next ∙ go (answer m n steps 65536) a.text (sym goes ∙ a.goes_on) }
-      where
-        go : (r : Result ℕ Fault) → text' ≡ text ++ (added r (plan_text m n steps)).0 → true ≡ (added r (plan_text m n steps)).1 → behind text (in_front r (plan_text m n steps) (texts m n (drop (i + 1) qs))) ≡ behind text' (texts m n (drop (i + 1) qs))
-        go (Ok end) t g = ap (λ l. (l, (texts m n (drop (i + 1) qs)).1)) (sym (append_assoc text (plan_text m n steps) (texts m n (drop (i + 1) qs)).0) ∙ ap (λ l. l ++ (texts m n (drop (i + 1) qs)).0) (sym t))
-        go (Err f) t g = absurd (true≢false g)
+    stops : (r : Result ℕ Fault) (end : Option Fault) → true ≡ is_some end → text' ≡ text ++ (added r (plan_text m n os)).0 → end ≡ (added r (plan_text m n os)).1 → behind text (in_front r (plan_text m n os) (texts m n rest)) ≡ (text', end)
+    stops (Ok k) None f t g = absurd cc
+    stops (Ok k) (Some d) f t g = absurd cc
+    stops (Err e) end f t g = cc
 
-    pub stopped : (more : Bool) → more ≡ false → Added m n steps text text' more → (text', true) ≡ texts m n qs
-    stopped more over a = sym (next ∙ go (answer m n steps 65536) a.text (sym over ∙ a.goes_on))
-      where
-        go : (r : Result ℕ Fault) → text' ≡ text ++ (added r (plan_text m n steps)).0 → false ≡ (added r (plan_text m n steps)).1 → behind text (in_front r (plan_text m n steps) (texts m n (drop (i + 1) qs))) ≡ (text', true)
-        go (Ok end) t g = absurd (true≢false (sym g))
-        go (Err f) t g = ap (λ l. (l, true)) (sym t)
+    pub one_more : {end : Option Fault} → false ≡ is_some end → Added m n os text text' end → Sofar all rest text'
+    one_more {end} f a = record { on = so.on ∙ goes_on (answer m n os 65536) end f a.text a.ends }
 
-  pub all_written : {qs : List (List ℕ)} {i : ℕ} {text : List ℕ} → Sofar qs i text → length qs ≤ i → (text, false) ≡ texts m n qs
-  all_written {qs} {i} {text} so h = sym (so.on ∙ ap (λ l. behind text (texts m n l)) (drop_all i qs h) ∙ ap (λ l. (l, false)) (append-nil text))
+    pub stopped : {end : Option Fault} → true ≡ is_some end → Added m n os text text' end → (text', end) ≡ texts m n all
+    stopped {end} f a = sym (so.on ∙ stops (answer m n os 65536) end f a.text a.ends)
+
+  -- a turn of the loop takes the next plan
+  pub turned : {all : List (List ℕ)} {count : ℕ} {xs : List (Vec ℕ Global)} (count' : ℕ) (xs' : List (Vec ℕ Global)) {x : Vec ℕ Global} {os text : List ℕ} → Sofar all (take count (map vec_items xs)) text → (xs ≡ x ∷ xs') × (count' + 1 ≡ count) → os ≡ vec_items x → Sofar all (os ∷ take count' (map vec_items xs')) text
+  turned {all} {count} {xs} count' xs' {x} {os} {text} so turn is =
+      let e : count ≡ suc count' = omega arith in
+      record { on = so.on ∙ ap (λ l. behind text (texts m n l)) (ap (λ l. take count (map vec_items l)) turn.0 ∙ ap (λ k. take k (vec_items x ∷ map vec_items xs')) e ∙ ap (λ o. o ∷ take count' (map vec_items xs')) (sym is)) }
+
+  -- the loop has ended, since a hundred plans are written or none is left
+  pub all_written : {all : List (List ℕ)} {count : ℕ} (xs : List (Vec ℕ Global)) {text : List ℕ} → Sofar all (take count (map vec_items xs)) text → (0 < count → length xs ≡ 0) → (text, None) ≡ texts m n all
+  all_written {all} {count} xs {text} so none = sym (so.on ∙ ap (λ l. behind text (texts m n l)) (over count xs none) ∙ ap (λ l. (l, None)) (append-nil text))
+    where
+      over : (count : ℕ) (xs : List (Vec ℕ Global)) → (0 < count → length xs ≡ 0) → take count (map vec_items xs) ≡ []
+      over zero xs f = refl
+      over (suc k) [] f = refl
+      over (suc k) (x ∷ xs) f = absurd (omega (arith, f (omega arith)))

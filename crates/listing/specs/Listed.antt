@@ -16,7 +16,7 @@ use Rattle.listing.specs.declared.output.Output.{Output}
 use Rattle.listing.specs.Outcome.{Written, Outcome, refused_with}
 
 abbrev pub written : Output → Written
-written o = (vec_items o.text, o.refused)
+written o = (vec_items o.text, o.refusal)
 
 -- the task of the tables where they are in range, and the empty task where not
 pub record TaskOf (t : Tables) (m : Model) (n : Names) : Type 0 where

@@ -1,14 +1,12 @@
 // The plans of a translator file.
-ghost use Rattle.std.specs.Prelude.{◌≡◌, MatchResult};
-ghost use Rattle.enumerate.specs.Refusal.{no_memory};
+ghost use Rattle.std.specs.Prelude.{IfOk};
 ghost use Rattle.sas.specs.Checks.{tables};
 ghost use Rattle.listing.specs.Listed.{written, Told, Listed, ListedAnew};
 
 use crate::output::Output;
 use crate::written::{list_task, refusal};
 use sas::{Condition, Operator, Reading, SasTask, Variable};
-use std::alloc::Global;
-use task::Fault;
+use std::alloc::{AllocError, Global};
 use translator::read;
 
 // What is written of the task that the tables hold.
@@ -19,8 +17,8 @@ fn list_tables<'a>(
     operators: &'a [Operator],
     conditions: &'a [Condition],
     used: Reading,
-) -> Result<Output, Fault>
-    ensures { MatchResult result (λ o. Told 8 (tables bytes.now variables.now operators.now conditions.now used) (written o)) (λ f. f ≡ no_memory) }
+) -> Result<Output, AllocError>
+    ensures { IfOk result (λ o. Told 8 (tables bytes.now variables.now operators.now conditions.now used) (written o)) }
 {
     let task = SasTask::new(bytes, variables, operators, conditions, used);
     list_task(heap, &task)
@@ -33,8 +31,8 @@ fn list_file(
     variables: &mut [Variable],
     operators: &mut [Operator],
     conditions: &mut [Condition],
-) -> Result<Output, Fault>
-    ensures { MatchResult result (λ o. Listed 8 bytes.now variables.old variables.new operators.old operators.new conditions.old conditions.new (written o)) (λ f. f ≡ no_memory) }
+) -> Result<Output, AllocError>
+    ensures { IfOk result (λ o. Listed 8 bytes.now variables.old variables.new operators.old operators.new conditions.old conditions.new (written o)) }
 {
     match read(bytes, variables, operators, conditions) {
         Ok(used) => list_tables(heap, bytes, variables, operators, conditions, used),
@@ -43,8 +41,8 @@ fn list_file(
 }
 
 // What `plans` writes for the bytes of a file. It fails only for want of memory.
-pub fn list_plans(heap: Global, bytes: &[u8]) -> Result<Output, Fault>
-    ensures { MatchResult result (λ o. ListedAnew 8 bytes.now (written o)) (λ f. f ≡ no_memory) }
+pub fn list_plans(heap: Global, bytes: &[u8]) -> Result<Output, AllocError>
+    ensures { IfOk result (λ o. ListedAnew 8 bytes.now (written o)) }
 {
     let mut variables = vec![in heap; Variable { size: 0 }; 60]?;
     let mut operators = vec![in heap; Operator {

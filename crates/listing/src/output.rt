@@ -1,8 +1,9 @@
 // What a program writes.
+use task::Fault;
 
-// The bytes, and whether a refusal ended them.
+// The bytes, and the refusal that ended them, if one did.
 #[derive(Drop)]
 pub struct Output {
     pub text: Vec<u8>,
-    pub refused: bool,
+    pub refusal: Option<Fault>,
 }

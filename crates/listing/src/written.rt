@@ -1,53 +1,58 @@
 // The cheapest plans of a task as text.
-ghost use Rattle.std.specs.Prelude.{◌≡◌, false, ◌++◌, map, length, take, MatchResult};
-ghost use Rattle.enumerate.specs.Lists.{plans_of};
-ghost use Rattle.enumerate.specs.Refusal.{no_memory};
+ghost use Rattle.std.specs.Prelude.{◌≡◌, ◌++◌, length, map, take, vec_items, IfOk};
+ghost use Rattle.text.specs.RefusalLine.{refusal_line};
 ghost use Rattle.listing.specs.Outcome.{Outcome, texts, refused_with, Added};
 ghost use Rattle.listing.specs.Listed.{written};
 
 use crate::output::Output;
 use enumerate::cheapest;
-use std::alloc::Global;
+use std::alloc::{AllocError, Global};
 use task::{Fault, Kind, Layer, NamedTask};
 use text::{write_plan, write_refusal};
 
 // Plans are looked for up to this price.
-pub(crate) const HIGHEST: u32 = 8;
+const HIGHEST: u32 = 8;
 
-// The line of a refusal.
-pub(crate) fn refusal(heap: Global, fault: Fault) -> Result<Output, Fault>
-    ensures { MatchResult result (λ o. written o ≡ refused_with fault) (λ f. f ≡ no_memory) }
+// Appends the line of a refusal.
+fn push_refusal(text: &mut Vec<u8>, fault: Fault) -> Result<(), AllocError>
+    ensures { IfOk result (λ _. text.new.items ≡ text.old.items ++ refusal_line fault) }
 {
     let mut line = [0; 64];
-    let length = write_refusal(fault, &mut line)?;
+    let length = write_refusal(fault, &mut line).unwrap();
+    text.extend_from_slice(&line[..length])?;
+    Ok(())
+}
+
+// The line of a refusal, and nothing else.
+pub(crate) fn refusal(heap: Global, fault: Fault) -> Result<Output, AllocError>
+    ensures { IfOk result (λ o. written o ≡ refused_with fault) }
+{
     let mut text = Vec::new(heap);
-    text.extend_from_slice(&line[0..length])?;
+    push_refusal(&mut text, fault)?;
     Ok(Output {
         text,
-        refused: true,
+        refusal: Some(fault),
     })
 }
 
-// The text of one plan behind what is written; false where its refusal's line takes its place.
-fn add_plan<T: NamedTask>(
-    heap: Global,
+// Appends the text of one plan; where that is refused, the line of the refusal, which it then answers.
+fn push_plan<T: NamedTask>(
+    text: &mut Vec<u8>,
     task: &T,
     steps: &[u32],
     buffer: &mut [u8],
-    text: &mut Vec<u8>,
-) -> Result<bool, Fault>
+) -> Result<Option<Fault>, AllocError>
     requires { length buffer.old ≡ 65536 }
-    ensures { MatchResult result (λ more. Added (T.Task.meaning task.now) (T.NamedTask.names task.now) steps.now text.old.items text.new.items more) (λ f. f ≡ no_memory) }
+    ensures { IfOk result (λ end. Added (T.Task.meaning task.now) (T.NamedTask.names task.now) steps.now text.old.items text.new.items end) }
 {
     match write_plan(task, steps, buffer) {
         Ok(length) => {
-            text.extend_from_slice(&buffer[0..length])?;
-            Ok(true)
+            text.extend_from_slice(&buffer[..length])?;
+            Ok(None)
         }
         Err(fault) => {
-            let line = refusal(heap, fault)?;
-            text.extend_from_slice(&line.text)?;
-            Ok(false)
+            push_refusal(text, fault)?;
+            Ok(Some(fault))
         }
     }
 }
@@ -56,32 +61,28 @@ fn add_plan<T: NamedTask>(
 fn write_plans<T: NamedTask>(
     heap: Global,
     task: &T,
-    plans: &Vec<Vec<u32>>,
+    plans: &[Vec<u32>],
     buffer: &mut [u8],
-) -> Result<Output, Fault>
+) -> Result<Output, AllocError>
     requires { length buffer.old ≡ 65536 }
-    ensures { MatchResult result (λ o. written o ≡ texts (T.Task.meaning task.now) (T.NamedTask.names task.now) (take 100 (plans_of plans.now))) (λ f. f ≡ no_memory) }
+    ensures { IfOk result (λ o. written o ≡ texts (T.Task.meaning task.now) (T.NamedTask.names task.now) (take 100 (map vec_items plans.now))) }
 {
     let mut text = Vec::new(heap);
-    let count = plans.len().min(100);
-    for at in 0..count {
-        let steps = &plans[at];
-        if !add_plan(heap, task, steps, buffer, &mut text)? {
-            return Ok(Output {
-                text,
-                refused: true,
-            });
+    for steps in plans.iter().take(100) {
+        let refusal = push_plan(&mut text, task, steps, buffer)?;
+        if refusal.is_some() {
+            return Ok(Output { text, refusal });
         }
     }
     Ok(Output {
         text,
-        refused: false,
+        refusal: None,
     })
 }
 
 // What is written of a task: the first hundred of its cheapest plans, or that none was found within reach.
-pub(crate) fn list_task<T: NamedTask>(heap: Global, task: &T) -> Result<Output, Fault>
-    ensures { MatchResult result (λ o. Outcome 8 (T.Task.meaning task.now) (T.NamedTask.names task.now) (written o)) (λ f. f ≡ no_memory) }
+pub(crate) fn list_task<T: NamedTask>(heap: Global, task: &T) -> Result<Output, AllocError>
+    ensures { IfOk result (λ o. Outcome 8 (T.Task.meaning task.now) (T.NamedTask.names task.now) (written o)) }
 {
     match cheapest(heap, task, HIGHEST)? {
         None => refusal(heap, Layer::Session.fault(Kind::Unfinished, 0)),

@@ -2,15 +2,15 @@
 // and which share of the plans has each operator. A program to read when one begins with the library.
 #![tactic(auto)]
 
+use anyhow::Result;
 use chart::{Arc, Chart, ChartTables};
 use enumerate::cheapest;
 use layers::{Barred, Required};
-use std::alloc::{AllocError, AllocFailed, Global};
-use std::io;
+use std::alloc::Global;
 use std::io::Write;
 use std::process::ExitCode;
-use tally::{Watch, join_all, share, value_of};
-use task::{Fault, NamedTask};
+use tally::{Pair, Watch, join_all, share, value_of};
+use task::{NamedTask, Task};
 use text::write_plan;
 
 // Five treatments, by the numbers that the arcs use: crop, despeckle, read, type and bleach.
@@ -34,37 +34,6 @@ const ESTIMATES: [u32; 6] = [3, 3, 3, 2, 0, 4_294_967_295];
 
 // Plans are looked for up to this cost.
 const HIGHEST: u32 = 8;
-
-// Why the program stopped.
-#[derive(Drop)]
-enum Stopped {
-    Fault(Fault),
-    Stream(io::Error),
-}
-
-impl From<Fault> for Stopped {
-    fn from(fault: Fault) -> Stopped {
-        Stopped::Fault(fault)
-    }
-}
-
-impl From<io::Error> for Stopped {
-    fn from(e: io::Error) -> Stopped {
-        Stopped::Stream(e)
-    }
-}
-
-impl From<AllocError> for Stopped {
-    fn from(_e: AllocError) -> Stopped {
-        Stopped::Fault(Fault::memory())
-    }
-}
-
-impl<T: Drop> From<AllocFailed<T>> for Stopped {
-    fn from(_e: AllocFailed<T>) -> Stopped {
-        Stopped::Fault(Fault::memory())
-    }
-}
 
 // Where each treatment leads.
 fn page_arcs() -> [Arc; 7] {
@@ -121,7 +90,7 @@ fn page_tables<'a>(arcs: &'a [Arc]) -> ChartTables<'a> {
 }
 
 // Writes the cheapest plans of a task. Any task with names will do: a chart, or layers over one.
-fn show_plans<T: NamedTask>(rt: &HostRuntime, title: &str, task: &T) -> Result<(), Stopped> {
+fn show_plans<T: NamedTask>(rt: &HostRuntime, title: &str, task: &T) -> Result<()> {
     println!(rt; "{title}:")?;
     match cheapest(rt.alloc(), task, HIGHEST)? {
         None => println!(rt; "no plan")?,
@@ -139,37 +108,33 @@ fn show_plans<T: NamedTask>(rt: &HostRuntime, title: &str, task: &T) -> Result<(
 }
 
 // Writes how many of the cheapest plans have the operator, and their share.
-fn show_share<T: NamedTask>(rt: &HostRuntime, task: &T, operator: u32) -> Result<(), Stopped> {
+fn show_share<T: NamedTask>(rt: &HostRuntime, task: &T, operator: u32) -> Result<()> {
     let watch = Watch { operator };
-    let mut values = Vec::new(rt.alloc());
-    if let Some(plans) = cheapest(rt.alloc(), task, HIGHEST)? {
-        for steps in plans.iter() {
-            values.push(value_of(&watch, steps))?;
-        }
-    }
+    let plans = cheapest(rt.alloc(), task, HIGHEST)?.unwrap_or(Vec::new(rt.alloc()));
+    let values = plans
+        .iter()
+        .map(|steps| value_of(&watch, steps))
+        .collect(rt.alloc())?;
     rt.stdout().write_all(task.name(operator))?;
     match join_all(&watch, &values) {
         None => println!(rt; ": no plan to share")?,
         Some(pair) => {
+            let Pair { all, with } = pair;
             let part = share(pair)?;
-            let all = pair.all;
-            let with = pair.with;
             println!(rt; ": {with} of {all}, share {part}")?;
         }
     }
     Ok(())
 }
 
-fn count_plans(heap: Global, chart: &Chart<'_>) -> Result<usize, Fault> {
-    match cheapest(heap, chart, HIGHEST)? {
-        None => Ok(0),
-        Some(plans) => Ok(plans.len()),
-    }
+// How many cheapest plans the chart has.
+fn count_plans(heap: Global, chart: &Chart<'_>) -> Result<usize> {
+    Ok(cheapest(heap, chart, HIGHEST)?.map_or(0, |plans| plans.len()))
 }
 
 // How many cheapest plans there are before and after despeckling a cropped page leads to bleach. A chart's
 // arcs are written only once the chart has ended; then it is made again.
-fn redraw(heap: Global, arcs: &mut [Arc; 7]) -> Result<(usize, usize), Fault> {
+fn redraw(heap: Global, arcs: &mut [Arc; 7]) -> Result<(usize, usize)> {
     let drawn = Chart::new(heap, page_tables(&*arcs))?;
     let before = count_plans(heap, &drawn)?;
     drop(drawn);
@@ -180,7 +145,7 @@ fn redraw(heap: Global, arcs: &mut [Arc; 7]) -> Result<(usize, usize), Fault> {
 }
 
 // Shows the page's plans, then their shares, then what a redrawn arc changes.
-fn run(rt: &HostRuntime) -> Result<(), Stopped> {
+fn run(rt: &HostRuntime) -> Result<()> {
     let heap = rt.alloc();
     let mut arcs = page_arcs();
     Chart::check(heap, page_tables(&arcs))?;
@@ -190,7 +155,7 @@ fn run(rt: &HostRuntime) -> Result<(), Stopped> {
     show_plans(rt, "with type", &Required::new(&chart, TYPE))?;
     show_plans(rt, "with bleach", &Required::new(&chart, BLEACH))?;
     println!(rt; "shares:")?;
-    for operator in 0..5 {
+    for operator in 0..chart.operators() {
         show_share(rt, &chart, operator)?;
     }
     println!(rt; "shares where bleach is required:")?;

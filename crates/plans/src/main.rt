@@ -6,66 +6,40 @@ use std::alloc::Global;
 use std::io;
 use std::io::{Read, Write};
 use std::process::ExitCode;
+use task::Fault;
 use text::write_refusal;
-
-// Why the program ends with status 1.
-#[derive(Drop)]
-enum Stopped {
-    Refused,
-    Stream(io::Error),
-}
-
-impl From<io::Error> for Stopped {
-    fn from(e: io::Error) -> Stopped {
-        Stopped::Stream(e)
-    }
-}
 
 // The input, or so much of it that it is seen to be too long.
 fn read_input(rt: &HostRuntime, heap: Global) -> io::Result<Vec<u8>> {
-    let mut input = rt.stdin();
     let mut bytes = Vec::new(heap);
-    for _ in 0..65_537 {
-        let mut chunk = [0; 4096];
-        let count = input.read(&mut chunk)?;
-        if count == 0 || bytes.len() > 65_536 {
-            break;
-        }
-        bytes.extend_from_slice(&chunk[0..count])?;
-    }
+    rt.stdin().take(65_537).read_to_end(&mut bytes)?;
     Ok(bytes)
 }
 
-// Reads the input, and writes its plans or why there are none.
-fn run(rt: &HostRuntime) -> Result<(), Stopped> {
+// Reads the input, and writes its plans or why there are none: the exit code.
+fn run(rt: &HostRuntime) -> io::Result<ExitCode> {
     let heap = rt.alloc();
     let bytes = read_input(rt, heap)?;
     let mut output = rt.stdout();
     match list_plans(heap, &bytes) {
         Ok(listed) => {
             output.write_all(&listed.text)?;
-            if listed.refused {
-                return Err(Stopped::Refused);
-            }
-            Ok(())
+            Ok(match listed.refusal {
+                None => ExitCode::SUCCESS,
+                Some(_) => ExitCode::FAILURE,
+            })
         }
-        Err(fault) => {
+        Err(e) => {
             let mut line = [0; 64];
-            if let Ok(length) = write_refusal(fault, &mut line) {
-                if length <= 64 {
-                    output.write_all(&line[0..length])?;
-                }
-            }
-            Err(Stopped::Refused)
+            let length = write_refusal(Fault::from(e), &mut line).unwrap();
+            output.write_all(&line[..length])?;
+            Ok(ExitCode::FAILURE)
         }
     }
 }
 
 fn main(rt: HostRuntime) -> ExitCode {
-    match run(&rt) {
-        Ok(()) => ExitCode::SUCCESS,
-        Err(_) => ExitCode::FAILURE,
-    }
+    run(&rt).unwrap_or(ExitCode::FAILURE)
 }
 
 #[cfg(test)]
@@ -83,18 +57,14 @@ mod tests {
         b"(read page)\n; cost = 1 (unit cost)\n(type page)\n; cost = 1 (unit cost)\n";
 
     // The sample with another text in place of a line, counted from 1.
-    fn with_line(heap: Global, line: u32, text: &[u8]) -> Result<Vec<u8>, AllocError> {
+    fn with_line(heap: Global, line: usize, text: &[u8]) -> Result<Vec<u8>, AllocError> {
         let mut bytes = Vec::new(heap);
-        let mut at: u32 = 1;
-        for b in SAMPLE {
-            if at != line {
-                bytes.push(*b)?;
-            } else if *b == b'\n' {
+        for (before, old) in SAMPLE.split_inclusive(|b| *b == b'\n').enumerate() {
+            if before + 1 == line {
                 bytes.extend_from_slice(text)?;
-                bytes.push(*b)?;
-            }
-            if *b == b'\n' {
-                at = at.saturating_add(1);
+                bytes.push(b'\n')?;
+            } else {
+                bytes.extend_from_slice(old)?;
             }
         }
         Ok(bytes)
@@ -109,14 +79,14 @@ mod tests {
     ) -> Result<(), Fail> {
         let output = list_plans(heap, bytes)?;
         assert!(rt; output.text.as_slice() == expected);
-        assert_eq!(rt; output.refused, refused);
+        assert_eq!(rt; output.refusal.is_some(), refused);
         Ok(())
     }
 
     fn refuses(
         rt: &impl Abort,
         heap: Global,
-        line: u32,
+        line: usize,
         text: &[u8],
         expected: &[u8],
     ) -> Result<(), Fail> {
@@ -174,14 +144,8 @@ mod tests {
     fn no_plan_within_reach(rt: HostRuntime) -> Result<(), Fail> {
         let heap = rt.alloc();
         let mut bytes = Vec::new(heap);
-        let mut at = 1;
-        for b in SAMPLE {
-            if at < 23 {
-                bytes.push(*b)?;
-            }
-            if *b == b'\n' && at < 23 {
-                at += 1;
-            }
+        for line in SAMPLE.split_inclusive(|b| *b == b'\n').take(22) {
+            bytes.extend_from_slice(line)?;
         }
         bytes.extend_from_slice(b"0\n0\n")?;
         writes(&rt, heap, &bytes, b"refused 12 at 0\n", true)

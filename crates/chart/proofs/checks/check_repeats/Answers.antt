@@ -6,7 +6,7 @@ use Rattle.chart.proofs.checks.check_repeats.Goals as goal
 
 pub returns-then-not-is_new : goal.returns-then-not-is_new
 returns-then-not-is_new c =
-    answer_first (λ k. new_arc c.args.arcs.now k) ArcRepeated (length c.args.arcs.now) c.loop-i.i c.chart.result (omega arith) c.loop-i.invariant (sym c.if-not-is_new.ensures) c.chart.ensures
+    answer_first (λ k. new_arc c.args.arcs.now k) ArcRepeated (length c.args.arcs.now) c.loop-i.i c.fault.result (omega arith) c.loop-i.invariant (sym c.if-not-is_new.ensures) c.fault.ensures
 
 pub returns : goal.returns
 returns c = answer_none (λ k. new_arc c.args.arcs.now k) ArcRepeated (length c.args.arcs.now) (λ k l. c.loop-i.invariant k (omega arith))

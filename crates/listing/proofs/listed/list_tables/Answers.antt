@@ -1,4 +1,4 @@
-use Rattle.std.proofs.lemmas.Result.{MatchResult-weaker}
+use Rattle.std.proofs.lemmas.Result.{IfOk-weaker}
 use Rattle.sas.specs.Meaning.{task_meaning, task_names}
 use Rattle.listing.proofs.listed.list_tables.Goals as goal
 
@@ -6,4 +6,4 @@ pub returns : goal.returns
 returns c =
     let made = c.new-task.ensures in
     let task = c.new-task.result in
-    MatchResult-weaker c.list_task.result c.list_task.ensures (λ o e. (task_meaning task, task_names task, record { held = made.held; refused = made.refused }, e)) (λ f e. e)
+    IfOk-weaker c.list_task.result _ _ (λ o e. (task_meaning task, task_names task, record { held = made.held; refused = made.refused }, e)) c.list_task.ensures

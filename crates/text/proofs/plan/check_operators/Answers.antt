@@ -5,7 +5,7 @@ use Rattle.text.proofs.plan.check_operators.Goals as goal
 
 pub returns-then-step-operators : goal.returns-then-step-operators
 returns-then-step-operators g c =
-    ap Err c.text.ensures ∙ ap check_known (unknown_here c.operators-operators.result c.args.steps.now c.loop-place.place c.loop-place.invariant c.loop-place-test.true c.if-step-operators.true) ∙ ap (λ n. check_known (first_unknown n 0 c.args.steps.now)) c.operators-operators.ensures
+    ap Err c.fault.ensures ∙ ap check_known (unknown_here c.operators-operators.result c.args.steps.now c.loop-place.place c.loop-place.invariant c.loop-place-test.true c.if-step-operators.true) ∙ ap (λ n. check_known (first_unknown n 0 c.args.steps.now)) c.operators-operators.ensures
 
 pub loop-place-preserved : goal.loop-place-preserved
 loop-place-preserved g c =

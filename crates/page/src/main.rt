@@ -111,7 +111,7 @@ fn show_plans<T: NamedTask>(rt: &HostRuntime, title: &str, task: &T) -> Result<(
 fn show_share<T: NamedTask>(rt: &HostRuntime, task: &T, operator: u32) -> Result<()> {
     let watch = Watch { operator };
     let plans = cheapest(rt.alloc(), task, HIGHEST)?.unwrap_or(Vec::new(rt.alloc()));
-    let values = plans
+    let values: Vec<Pair> = plans
         .iter()
         .map(|steps| value_of(&watch, steps))
         .collect(rt.alloc())?;

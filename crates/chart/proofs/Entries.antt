@@ -1,7 +1,10 @@
 -- Entries in order, and what an index says of the arcs. Assumes nothing.
-use Rattle.std.proofs.Common.{◌≡◌, ℕ, zero, suc, ◌+◌, ◌<◌, ◌≤◌, Bool, true, false, eqb, List, [], ◌∷◌, length, get_or, Some, None, sym, refl, ap, ◌∙◌, ⊎_elim, arith}
-use Rattle.std.proofs.lemmas.Bool.{cases_lt}
-use Rattle.std.proofs.lemmas.Bool.{eqb-true}
+use Rattle.std.proofs.Common.{◌≡◌, ℕ, ◌<◌, ◌≤◌, Bool, true, false, eqb, List, length, get_or, Some, None, sym, refl, ap, ◌∙◌, subst, ⊎_elim, arith}
+use Rattle.std.specs.Bool.{then_some}
+use Rattle.std.specs.List.Sorted.{IsPartitionedBy, IsPartitionPoint}
+use Rattle.std.proofs.lemmas.List.{get_or_default}
+use Rattle.std.proofs.lemmas.List.Folds.{Any-from_list_any}
+use Rattle.std.proofs.lemmas.Bool.{cases_lt, eqb-true}
 use Rattle.std.proofs.lemmas.Bool.Decides.{nat_tests}
 use Rattle.chart.specs.declared.tables.Arc.{Arc}
 use Rattle.chart.specs.declared.tables.Entry.{Entry}
@@ -15,9 +18,6 @@ use Rattle.chart.proofs.Targets.{target_none}
 pub before_earlier : (e f : Entry) (s o : ℕ) → in_order e f ≡ true → before f s o ≡ true → before e s o ≡ true
 before_earlier e f s o h k = grind (arith, nat_tests)
 
-pub before_later : (e f : Entry) (s o : ℕ) → in_order e f ≡ true → before e s o ≡ false → before f s o ≡ false
-before_later e f s o h k = grind (arith, nat_tests)
-
 pub both_lead : (a : Arc) (s o : ℕ) → a.from ≡ s → a.operator ≡ o → leads a s o ≡ true
 both_lead a s o e f = grind (arith, nat_tests)
 
@@ -29,17 +29,9 @@ abbrev Enters : List Entry → ℕ → Type 0
 Enters es j = (k : ℕ) × (k < length es) × ((get_or es k no_entry).arc ≡ j)
 
 entered_some : (es : List Entry) (j : ℕ) → entered es j ≡ true → Enters es j
-entered_some [] j h = absurd (grind arith)
-entered_some (e ∷ es) j h = go (entered_some es j) (eqb e.arc j) refl h
-  where
-    go : (entered es j ≡ true → Enters es j) → (b : Bool) → eqb e.arc j ≡ b → entered (e ∷ es) j ≡ true → Enters (e ∷ es) j
-    go rec true f h = (0, omega arith, eqb-true e.arc j f)
-    go rec false f h = let r = rec (grind (arith, f, h)) in (suc r.0, omega (arith, r.1), r.2)
-
-pub some_entered : (es : List Entry) (j k : ℕ) → k < length es → (get_or es k no_entry).arc ≡ j → entered es j ≡ true
-some_entered [] j k l e = absurd (omega arith)
-some_entered (f ∷ es) j zero l e = grind (arith, nat_tests)
-some_entered (f ∷ es) j (suc k) l e = let rest = some_entered es j k (omega arith) e in grind (arith, nat_tests)
+entered_some es j h =
+    let w = Any-from_list_any (λ e. eqb e.arc j) es h in
+    (w.0, w.2, ap (λ e. e.arc) (get_or_default es w.0 no_entry w.1 w.2 ∙ w.3) ∙ eqb-true w.1.arc j w.4)
 
 module _ (arcs : List Arc) (es : List Entry) (x : Indexed arcs es) where
   facts : (k : ℕ) → k < length es → ((get_or es k no_entry).arc < length arcs) × ((get_or es k no_entry).from ≡ (get_or arcs (get_or es k no_entry).arc no_arc).from) × ((get_or es k no_entry).operator ≡ (get_or arcs (get_or es k no_entry).arc no_arc).operator)
@@ -68,25 +60,22 @@ module _ (arcs : List Arc) (es : List Entry) (x : Indexed arcs es) where
     not_below : (k o : ℕ) → (get_or es k no_entry).from ≡ s → (get_or es k no_entry).operator ≡ o → from ≤ o → r ≤ k
     not_below k o e f l = ⊎_elim (λ m. absurd (let t = b.below k m in grind (arith, nat_tests))) (λ m. m) (cases_lt k r)
 
-    pub none_at_end : r ≡ length es → (o : ℕ) → from ≤ o → target arcs s o ≡ None
+    pub none_at_end : length es ≤ r → (o : ℕ) → from ≤ o → target arcs s o ≡ None
     none_at_end h o l = no_target s o (λ k m e f. omega (arith, not_below k o e f l))
 
-    pub none_elsewhere : r < length es → ((get_or arcs (get_or es r no_entry).arc no_arc).from ≡ s → ⊥) → (o : ℕ) → from ≤ o → target arcs s o ≡ None
+    none_elsewhere : r < length es → ((get_or es r no_entry).from ≡ s → ⊥) → (o : ℕ) → from ≤ o → target arcs s o ≡ None
     none_elsewhere h n o l =
         no_target s o (λ k m e f.
         let up = not_below k o e f l in
         let i = x.ordered r k up m in
         let a = b.above r (omega arith) h in
         let same : (get_or es r no_entry).from ≡ s = grind (arith, nat_tests) in
-        n (sym (facts r h).1 ∙ same))
+        n same)
 
-    pub next_found : r < length es → (get_or arcs (get_or es r no_entry).arc no_arc).from ≡ s → NextArc arcs s from (Some (get_or es r no_entry).arc)
-    next_found h e =
-        ((facts r h).0, e, low, (λ k l. no_lead s (get_or arcs (get_or es r no_entry).arc no_arc).operator k (omega (arith, (facts r h).0)) (λ i m ea ef eo. earlier k l i m ea ef eo)), (λ o l m. no_target s o (λ k n ef eo. between o l m k n ef eo)))
+    next_found : r < length es → (get_or es r no_entry).from ≡ s → NextArc arcs s from (Some (get_or es r no_entry).arc)
+    next_found h at_state =
+        ((facts r h).0, sym (facts r h).1 ∙ at_state, low, (λ k l. no_lead s (get_or arcs (get_or es r no_entry).arc no_arc).operator k (omega (arith, (facts r h).0)) (λ i m ea ef eo. earlier k l i m ea ef eo)), (λ o l m. no_target s o (λ k n ef eo. between o l m k n ef eo)))
       where
-        at_state : (get_or es r no_entry).from ≡ s
-        at_state = (facts r h).1 ∙ e
-
         low : from ≤ (get_or arcs (get_or es r no_entry).arc no_arc).operator
         low = let a = b.above r (omega arith) h in let q = at_state in let o = (facts r h).2 in grind (arith, nat_tests)
 
@@ -106,9 +95,20 @@ module _ (arcs : List Arc) (es : List Entry) (x : Indexed arcs es) where
             let p = (facts r h).2 in
             grind (arith, nat_tests)
 
-module _ (es : List Entry) (u : Ordered es) (s o m : ℕ) where
-  pub all_before : m < length es → before (get_or es m no_entry) s o ≡ true → (k : ℕ) → k < m + 1 → before (get_or es k no_entry) s o ≡ true
-  all_before h e k l = before_earlier (get_or es k no_entry) (get_or es m no_entry) s o (u k m (omega arith) h) e
+    -- the arc of the entry at the bound, if that is of the state
+    pub next_at : r < length es → (e : Entry) → e ≡ get_or es r no_entry → NextArc arcs s from (then_some (eqb e.from s) e.arc)
+    next_at h e same = subst (λ e. NextArc arcs s from (then_some (eqb e.from s) e.arc)) (sym same) (go (eqb (get_or es r no_entry).from s) refl)
+      where
+        go : (c : Bool) → eqb (get_or es r no_entry).from s ≡ c → NextArc arcs s from (then_some c (get_or es r no_entry).arc)
+        go true f = next_found h (eqb-true (get_or es r no_entry).from s f)
+        go false f = none_elsewhere h (λ g. grind (arith, nat_tests, f, g))
 
-  pub none_before : before (get_or es m no_entry) s o ≡ false → (k : ℕ) → m ≤ k → k < length es → before (get_or es k no_entry) s o ≡ false
-  none_before e k l h = before_later (get_or es m no_entry) (get_or es k no_entry) s o (u m k l h) e
+module _ (es : List Entry) (u : Ordered es) (s o : ℕ) where
+  -- those before a state and an operator stand before the others
+  pub parted : IsPartitionedBy (λ e. before e s o) es
+  parted i j d l h e =
+      let at_j = subst (λ f. before f s o ≡ true) (get_or_default es j d no_entry h) e in
+      subst (λ f. before f s o ≡ true) (get_or_default es i no_entry d (omega arith)) (before_earlier (get_or es i no_entry) (get_or es j no_entry) s o (u i j l h) at_j)
+
+  pub bound_found : (r : ℕ) → r ≤ length es → IsPartitionPoint (λ e. before e s o ≡ true) (λ e. before e s o ≡ false) es r → Bound es s o r
+  bound_found r h p = record { within = h; below = λ k l. p.0 k no_entry (omega arith) l; above = λ k l m. p.1 k no_entry l m }

@@ -1,9 +1,7 @@
 pub mod Charts
 pub mod Entries
 pub mod Firsts
-pub mod Hopes
-pub mod Outcomes
+pub mod Makes
 pub mod Repeats
 pub mod Sorts
 pub mod Targets
-pub mod Makes

@@ -1,8 +1,8 @@
 -- Arcs that have no earlier one of their state and operator. Assumes nothing.
-use Rattle.std.proofs.Common.{◌≡◌, ℕ, ◌<◌, true, false, not, eqb, List, length, get_or, take, is_some, Some, None, sym, refl, ap, ◌∙◌, subst, ⊎_elim, arith}
-use Rattle.std.proofs.lemmas.Bool.{cases_lt}
+use Rattle.std.proofs.Common.{◌≡◌, ℕ, ◌<◌, true, false, not, eqb, List, length, get_or, take, is_some, Some, None, Option, sym, refl, ap, ◌∙◌, subst, ⊎_elim, arith}
+use Rattle.std.specs.Option.{option_eq}
 use Rattle.std.proofs.lemmas.List.{get_or-take, length-take-le}
-use Rattle.std.proofs.lemmas.Bool.{cases_order, eq-eqb, ne_eqb, both_ways}
+use Rattle.std.proofs.lemmas.Bool.{cases_lt, cases_order, eq-eqb, ne_eqb, both_ways}
 use Rattle.chart.specs.declared.tables.Arc.{Arc}
 use Rattle.chart.specs.Faults.{new_arc, no_arc}
 use Rattle.chart.specs.Index.{NextArc}
@@ -26,7 +26,7 @@ module _ (arcs : List Arc) (i : ℕ) (l : i < length arcs) where
   front : (k : ℕ) → k < i → get_or (take i arcs) k no_arc ≡ get_or arcs k no_arc
   front k h = get_or-take i arcs k no_arc h
 
-  pub new_never : NextArc arcs s o None → false ≡ new_arc arcs i
+  new_never : NextArc arcs s o None → false ≡ new_arc arcs i
   new_never n = absurd (some_target (n o (omega arith)))
 
   module _ (j : ℕ) (n : NextArc arcs s o (Some j)) where
@@ -49,5 +49,10 @@ module _ (arcs : List Arc) (i : ℕ) (l : i < length arcs) where
     before_first : i < j → eqb j i ≡ new_arc arcs i
     before_first h = absurd (both_ways (leads (get_or arcs i no_arc) s o) (none_earlier i h) itself)
 
-    pub new_first : eqb j i ≡ new_arc arcs i
+    new_first : eqb j i ≡ new_arc arcs i
     new_first = ⊎_elim at_first (λ c. ⊎_elim after_first before_first c) (cases_order j i)
+
+  -- whether the first arc found is this one
+  pub new_is : (r : Option ℕ) → NextArc arcs s o r → option_eq eqb r (Some i) ≡ new_arc arcs i
+  new_is (Some j) n = new_first j n
+  new_is None n = new_never n

@@ -1,17 +1,18 @@
 -- The sorted entries of all arcs are their index. Assumes nothing.
-use Rattle.std.proofs.Common.{◌≡◌, ℕ, ◌<◌, true, false, List, length, get_or, Ordering, sym, ap, ◌∙◌, subst, arith}
+use Rattle.std.proofs.Common.{◌≡◌, ℕ, ◌<◌, true, false, eqb, List, length, get_or, Ordering, sym, ap, ◌∙◌, subst, arith}
 use Rattle.std.specs.Cmp.{IsTotalOrder}
 use Rattle.std.specs.Ordering.{is_lt, nat_cmp, on, then_cmp}
 use Rattle.std.specs.List.Sorted.{IsPermutation, IsSorted}
 use Rattle.std.proofs.lemmas.Cmp.{nat_cmp_total, on_total, then_total}
 use Rattle.std.proofs.lemmas.List.MinMax.{ranks_by}
-use Rattle.std.proofs.ByRecursion.{All-get_or, All-from_get_or, has_get_or, all_shuffled, has_shuffled}
-use Rattle.std.proofs.lemmas.List.Sorted.{sorted_far}
+use Rattle.std.proofs.lemmas.List.{get_or_default}
+use Rattle.std.proofs.lemmas.List.Sorted.{All-permutation, list_any-IsPermutation, sorted_far}
+use Rattle.std.proofs.lemmas.List.Folds.{list_any_at}
+use Rattle.std.proofs.lemmas.Bool.{eq-eqb}
 use Rattle.std.proofs.lemmas.Bool.Decides.{nat_tests}
 use Rattle.chart.specs.declared.tables.Arc.{Arc}
 use Rattle.chart.specs.declared.tables.Entry.{Entry}
 use Rattle.chart.specs.Index.{of_arc, entry_of, no_entry, in_order, Listed, Sound, Whole, Ordered}
-use Rattle.chart.proofs.Entries.{some_entered}
 
 -- the order of entries
 abbrev entry_cmp : Entry → Entry → Ordering
@@ -29,13 +30,12 @@ module _ (arcs : List Arc) (us es : List Entry) (l : Listed arcs (length arcs) u
 
   pub sound_sorted : Sound arcs es
   sound_sorted k h =
-      All-get_or (λ e. of_arc arcs e ≡ true) es k no_entry h
-      (all_shuffled (λ e. of_arc arcs e ≡ true) us es s (All-from_get_or (λ e. of_arc arcs e ≡ true) us no_entry (λ i m. let n : i < length arcs = omega (arith, l.count) in subst (λ e. of_arc arcs e ≡ true) (sym (l.each i n)) (of_its_arc i n))))
+      All-permutation (λ e. of_arc arcs e ≡ true) us es s (λ i d m. let n : i < length arcs = omega (arith, l.count) in subst (λ e. of_arc arcs e ≡ true) (sym (get_or_default us i d no_entry m ∙ l.each i n)) (of_its_arc i n)) k no_entry h
 
   pub whole_sorted : Whole arcs es
   whole_sorted k h =
-      let there = has_shuffled us es (get_or us k no_entry) s (has_get_or us k no_entry (omega (arith, l.count))) in
-      some_entered es k there.0 there.1 (ap (λ e. e.arc) (there.2 no_entry ∙ l.each k h))
+      let its = eq-eqb (get_or us k no_entry).arc k (ap (λ e. e.arc) (l.each k h)) in
+      sym (list_any-IsPermutation (λ e. eqb e.arc k) us es s) ∙ list_any_at (λ e. eqb e.arc k) us k no_entry (omega (arith, l.count)) its
 
   pub ordered_sorted : IsSorted entry_cmp es → Ordered es
   ordered_sorted up i j h m =

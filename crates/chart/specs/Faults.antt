@@ -1,5 +1,5 @@
 -- Which fault the tables of a chart have first. Assumes nothing.
-use Rattle.std.specs.Prelude.{ℕ, zero, suc, ◌+◌, Bool, true, false, cond, not, ◌&&◌, List, length, get_or, take, is_some, Some, None, Ok, Err, Option, Result, ◌==◌, nat_le, nat_lt, slice_index, slice_index_or}
+use Rattle.std.specs.Prelude.{◌≡◌, ℕ, zero, suc, ◌+◌, ◌<◌, Bool, true, false, cond, not, ◌&&◌, List, length, get_or, take, is_some, Some, None, Ok, Err, Option, Result, ◌==◌, nat_le, nat_lt, slice_index, slice_index_or}
 use Rattle.task.specs.declared.faults.Fault.{Fault}
 use Rattle.task.specs.declared.faults.Kind.{Kind}
 use Rattle.task.specs.declared.faults.Kind.TheVariants.{OverLimit, OutOfRange, ArcRepeated, EstimateLaw}
@@ -62,28 +62,60 @@ at_most None c None = true
 abbrev pub arc_lawful : Tables → Arc → Bool
 arc_lawful t a = at_most (estimate_of t a.from) (slice_index t.costs a.operator) (estimate_of t a.to)
 
+-- the start state is no state
+abbrev pub start_fault : Tables → Option Fault
+start_fault t = fault_unless OutOfRange (nat_lt t.start (length t.goals))
+
+-- the first cost that is not allowed
+abbrev pub costs_fault : Tables → Option Fault
+costs_fault t = fault_at OutOfRange (first_failing (λ o. cost_fits (slice_index t.costs o)) (length t.costs))
+
+-- the first name that does not fit the text
+abbrev pub ends_fault : Tables → Option Fault
+ends_fault t = fault_at OutOfRange (first_failing (end_fits (length t.text) t.ends) (length t.ends))
+
+-- the first arc that names what is not there
+abbrev pub arcs_fault : Tables → Option Fault
+arcs_fault t = fault_at OutOfRange (first_failing (λ k. arc_fits (length t.goals) (length t.costs) (slice_index_or t.arcs k no_arc)) (length t.arcs))
+
 abbrev pub range_fault : Tables → Option Fault
-range_fault t =
-    or_else (fault_unless OutOfRange (nat_lt t.start (length t.goals)))
-    (or_else (fault_at OutOfRange (first_failing (λ o. cost_fits (slice_index t.costs o)) (length t.costs)))
-    (or_else (fault_at OutOfRange (first_failing (end_fits (length t.text) t.ends) (length t.ends)))
-    (fault_at OutOfRange (first_failing (λ k. arc_fits (length t.goals) (length t.costs) (slice_index_or t.arcs k no_arc)) (length t.arcs)))))
+range_fault t = or_else (start_fault t) (or_else (costs_fault t) (or_else (ends_fault t) (arcs_fault t)))
+
+-- tables over the limits
+abbrev pub limit_fault : Tables → Option Fault
+limit_fault t = fault_unless OverLimit (lengths_fit t)
 
 -- what is seen without comparing records
 abbrev pub table_fault : Tables → Option Fault
-table_fault t = or_else (fault_unless OverLimit (lengths_fit t)) (range_fault t)
+table_fault t = or_else (limit_fault t) (range_fault t)
+
+-- the first goal with an estimate other than 0
+abbrev pub goals_fault : Tables → Option Fault
+goals_fault t = fault_at EstimateLaw (first_failing (goal_aware t.goals t.estimates) (length t.goals))
+
+-- the first arc along which the estimate falls by more than the cost
+abbrev pub estimates_fault : Tables → Option Fault
+estimates_fault t = fault_at EstimateLaw (first_failing (λ k. arc_lawful t (slice_index_or t.arcs k no_arc)) (length t.arcs))
 
 abbrev pub law_fault : Tables → Option Fault
-law_fault t =
-    or_else (fault_at EstimateLaw (first_failing (goal_aware t.goals t.estimates) (length t.goals)))
-    (fault_at EstimateLaw (first_failing (λ k. arc_lawful t (slice_index_or t.arcs k no_arc)) (length t.arcs)))
+law_fault t = or_else (goals_fault t) (estimates_fault t)
 
+-- the first arc with the state and the operator of an earlier one
 abbrev pub repeat_fault : Tables → Option Fault
 repeat_fault t = fault_at ArcRepeated (first_failing (new_arc t.arcs) (length t.arcs))
 
+-- what is seen by comparing records
+abbrev pub record_fault : Tables → Option Fault
+record_fault t = or_else (repeat_fault t) (law_fault t)
+
 abbrev pub chart_fault : Tables → Option Fault
-chart_fault t = or_else (table_fault t) (or_else (repeat_fault t) (law_fault t))
+chart_fault t = or_else (table_fault t) (record_fault t)
 
 abbrev pub answered : Option Fault → Result (Unit {0}) Fault
 answered None = Ok tt
 answered (Some f) = Err f
+
+-- r answers by the fault of the first record, of n, that fails a test: by any test whose answers the calls give
+abbrev pub AnswersFirst : (ℕ → Bool → Type 0) → Kind → ℕ → Result (Unit {0}) Fault → Type 0
+AnswersFirst gives kind n r =
+    (p : ℕ → Bool) → ((i : ℕ) (b : Bool) → i < n → gives i b → b ≡ p i) → r ≡ answered (fault_at kind (first_failing p n))

@@ -1,5 +1,6 @@
 -- The index of a chart's arcs: an entry for each, in the order of states, operators and arc numbers. Assumes nothing.
-use Rattle.std.specs.Prelude.{◌≡◌, ℕ, ◌<◌, ◌≤◌, Bool, true, false, ◌&&◌, ◌||◌, List, [], ◌∷◌, length, get_or, Some, None, Option, ◌==◌, nat_le, nat_lt, slice_index_or}
+use Rattle.std.specs.Prelude.{◌≡◌, ℕ, ◌<◌, ◌≤◌, Bool, true, false, ◌&&◌, ◌||◌, List, length, get_or, Some, None, Option, ◌==◌, nat_le, nat_lt, slice_index_or}
+use Rattle.std.specs.List.{list_any}
 use Rattle.chart.specs.declared.tables.Arc.{Arc}
 use Rattle.chart.specs.declared.tables.Entry.{Entry}
 use Rattle.chart.specs.Faults.{no_arc}
@@ -26,8 +27,7 @@ of_arc arcs e = nat_lt e.arc (length arcs) && (e.from == (get_or arcs e.arc no_a
 
 -- some entry is of arc k
 abbrev pub entered : List Entry → ℕ → Bool
-entered [] k = false
-entered (e ∷ es) k = e.arc == k || entered es k
+entered es k = list_any (λ e. e.arc == k) es
 
 -- the entries are of the arcs, one of each, in order
 abbrev pub Sound : List Arc → List Entry → Type 0

@@ -7,7 +7,7 @@ use Rattle.task.specs.declared.faults.Kind.{Kind}
 use Rattle.task.specs.declared.faults.Kind.TheVariants.{OverLimit, OutOfRange, EstimateLaw}
 use Rattle.task.specs.Model.{Lawful, AtMost}
 use Rattle.chart.specs.declared.tables.Arc.{Arc}
-use Rattle.chart.specs.Faults.{or_else, fault_at, fault_unless, first_failing, lengths_fit, cost_fits, end_fits, arc_fits, goal_aware, at_most, arc_lawful, range_fault, table_fault, repeat_fault, law_fault, chart_fault, no_arc}
+use Rattle.chart.specs.Faults.{or_else, fault_at, fault_unless, first_failing, lengths_fit, cost_fits, end_fits, arc_fits, goal_aware, at_most, arc_lawful, start_fault, costs_fault, ends_fault, range_fault, limit_fault, table_fault, goals_fault, repeat_fault, law_fault, record_fault, chart_fault, no_arc}
 use Rattle.chart.specs.Tables.{Tables, hope, estimate_of, charted, chart_names, leads, name_start, target}
 
 pub leads_both : (a : Arc) (s o : ℕ) → leads a s o ≡ true → (a.from ≡ s) × (a.operator ≡ o)
@@ -74,13 +74,13 @@ pub record Passed (t : Tables) : Type 0 where
 
 pub no_fault_passed : (t : Tables) → chart_fault t ≡ None → Passed t
 no_fault_passed t e =
-    let all = neither (table_fault t) (or_else (repeat_fault t) (law_fault t)) e in
-    let tabled = neither (fault_unless OverLimit (lengths_fit t)) (range_fault t) all.0 in
-    let starts = neither (fault_unless OutOfRange (ltb t.start (length t.goals))) _ tabled.1 in
-    let priced = neither (fault_at OutOfRange (first_failing (λ o. cost_fits (get_or t.costs o 0)) (length t.costs))) _ starts.1 in
-    let ended = neither (fault_at OutOfRange (first_failing (end_fits (length t.text) t.ends) (length t.ends))) _ priced.1 in
+    let all = neither (table_fault t) (record_fault t) e in
+    let tabled = neither (limit_fault t) (range_fault t) all.0 in
+    let starts = neither (start_fault t) _ tabled.1 in
+    let priced = neither (costs_fault t) _ starts.1 in
+    let ended = neither (ends_fault t) _ priced.1 in
     let lawful = (neither (repeat_fault t) (law_fault t) all.1).1 in
-    let aware = neither (fault_at EstimateLaw (first_failing (goal_aware t.goals t.estimates) (length t.goals))) _ lawful in
+    let aware = neither (goals_fault t) _ lawful in
     record {
       lengths = passed OverLimit (lengths_fit t) tabled.0;
       start = ltb-true t.start (length t.goals) (passed OutOfRange (ltb t.start (length t.goals)) starts.0);

@@ -1,29 +1,31 @@
 -- What a chart means, and when it is the one that tables make. Assumes nothing.
-use Rattle.std.specs.Prelude.{◌≡◌, ℕ, ◌<◌, ◌≤◌, Bool, true, false, ◌⊎◌, Some, None, Err, Option, Result}
+use Rattle.std.specs.Prelude.{◌≡◌, ℕ, ◌<◌, ◌≤◌, ◌⊎◌, Some, None, Err, Option, Result}
 use Rattle.task.specs.Model.{Model}
 use Rattle.task.specs.Names.{Names}
 use Rattle.task.specs.Nothing.{nothing, no_names}
 use Rattle.task.specs.declared.faults.Fault.{Fault}
 use Rattle.task.specs.declared.faults.Kind.TheVariants.{NoMemory}
 use Rattle.task.specs.declared.faults.Layer.TheVariants.{Memory}
+use Rattle.chart.specs.declared.index.IndexedTables.{IndexedTables}
 use Rattle.chart.specs.declared.shape.Chart.{Chart}
 use Rattle.chart.specs.declared.tables.Arc.{Arc}
 use Rattle.chart.specs.Faults.{answered, chart_fault, table_fault}
 use Rattle.chart.specs.Tables.{Tables, contents, charted, chart_names}
 
-abbrev pub meaning_of : Bool → Tables → Model
-meaning_of true t = charted t
-meaning_of false t = nothing
+-- the task and the names of the tables that are held, or of the empty task
+abbrev pub meaning_of : Option IndexedTables → Model
+meaning_of (Some t) = charted (contents t.fit.tables)
+meaning_of None = nothing
 
-abbrev pub naming_of : Bool → Tables → Names
-naming_of true t = chart_names t
-naming_of false t = no_names
+abbrev pub naming_of : Option IndexedTables → Names
+naming_of (Some t) = chart_names (contents t.fit.tables)
+naming_of None = no_names
 
 abbrev pub task_meaning : Chart → Model
-task_meaning c = meaning_of c.made (contents c.tables)
+task_meaning c = meaning_of c.held
 
 abbrev pub task_names : Chart → Names
-task_names c = naming_of c.made (contents c.tables)
+task_names c = naming_of c.held
 
 -- the task of the tables where they have no fault, and the empty task where they have one
 pub record Made (t : Tables) (c : Chart) : Type 0 where

@@ -1,41 +1,19 @@
 // The checks of a chart's tables, in their order: each function checks one rule.
-ghost use Rattle.std.specs.Prelude.{◌≡◌, ℕ, ◌<◌, ◌≤◌, true, length, nat_lt, slice_index, slice_index_or};
-ghost use Rattle.task.specs.declared.faults.Kind.TheVariants.{OverLimit, OutOfRange, ArcRepeated, EstimateLaw};
-ghost use Rattle.chart.specs.Faults.{answered, arc_fits, arc_lawful, at_most, cost_fits, end_fits, fault_at, fault_unless, first_failing, goal_aware, law_fault, lengths_fit, new_arc, no_arc, or_else, range_fault, repeat_fault, table_fault};
-ghost use Rattle.chart.specs.Index.{Indexed};
+ghost use Rattle.std.specs.Prelude.{◌≡◌, ℕ, ◌<◌, ◌≤◌, true, length, slice_index, slice_index_or, IfOk, IfErr};
+ghost use Rattle.chart.specs.Faults.{AnswersFirst, answered, arc_fits, arc_lawful, arcs_fault, at_most, cost_fits, costs_fault, end_fits, ends_fault, estimates_fault, goal_aware, goals_fault, lengths_fit, limit_fault, range_fault, start_fault, table_fault};
 ghost use Rattle.chart.specs.Tables.{contents, hope, name_start};
 
-use crate::index::next_arc;
-use crate::tables::{Arc, ChartTables, Entry};
+use crate::tables::{Arc, ChartTables};
 use task::{Fault, Kind, Layer};
 
 // An estimate of this number means that a state is hopeless.
 const HOPELESS: u32 = 4294967295;
 
-// The limits, and the lengths of tables of the same things.
-pub(crate) fn check_lengths(tables: ChartTables) -> Result<(), Fault>
-    ensures { result ≡ answered (fault_unless OverLimit (lengths_fit (contents tables.entry))) }
-{
-    let states = tables.goals.len();
-    let few_states = states >= 1 && states <= 65535 && tables.estimates.len() == states;
-    let operators = tables.costs.len();
-    let few_operators = operators <= 4096 && tables.ends.len() == operators;
-    if few_states && few_operators && tables.arcs.len() <= 65535 {
-        Ok(())
-    } else {
-        Err(Layer::Chart.fault(Kind::OverLimit, 0))
-    }
-}
-
-// The start state.
-fn check_start(tables: ChartTables) -> Result<(), Fault>
-    ensures { result ≡ answered (fault_unless OutOfRange (nat_lt tables.entry.start (length tables.entry.goals.now))) }
-{
-    if (tables.start as usize) < tables.goals.len() {
-        Ok(())
-    } else {
-        Err(Layer::Chart.fault(Kind::OutOfRange, 0))
-    }
+// Tables within the limits, those of the same things as long as each other.
+#[derive(Clone, Copy)]
+pub(crate) struct FitTables<'a> {
+    pub tables: ChartTables<'a>,
+    ghost fit: { lengths_fit (contents tables) ≡ true },
 }
 
 // Whether a cost is 1 to 1,000,000.
@@ -43,19 +21,6 @@ fn is_cost(cost: u32) -> bool
     ensures { result ≡ cost_fits cost }
 {
     cost >= 1 && cost <= 1000000
-}
-
-// The costs, each 1 to 1,000,000.
-fn check_costs(costs: &[u32]) -> Result<(), Fault>
-    requires { length costs.now ≤ 65535 }
-    ensures { result ≡ answered (fault_at OutOfRange (first_failing (λ o. cost_fits (slice_index costs.now o)) (length costs.now))) }
-{
-    for i in 0..costs.len() {
-        if !is_cost(costs[i]) {
-            return Err(Layer::Chart.fault(Kind::OutOfRange, i as u32));
-        }
-    }
-    Ok(())
 }
 
 // The place where the name of an operator begins.
@@ -74,19 +39,6 @@ fn is_end(bytes: usize, ends: &[usize], operator: usize) -> bool
     name_start_of(ends, operator) <= ends[operator] && ends[operator] <= bytes
 }
 
-// The ends of names: they never fall, and stay within a text of so many bytes.
-fn check_ends(bytes: usize, ends: &[usize]) -> Result<(), Fault>
-    requires { length ends.now ≤ 65535 }
-    ensures { result ≡ answered (fault_at OutOfRange (first_failing (end_fits bytes ends.now) (length ends.now))) }
-{
-    for i in 0..ends.len() {
-        if !is_end(bytes, ends, i) {
-            return Err(Layer::Chart.fault(Kind::OutOfRange, i as u32));
-        }
-    }
-    Ok(())
-}
-
 // Whether the states and the operator of the arc are there.
 fn is_in_range(states: usize, operators: usize, arc: Arc) -> bool
     ensures { result ≡ arc_fits states operators arc }
@@ -96,89 +48,19 @@ fn is_in_range(states: usize, operators: usize, arc: Arc) -> bool
         && (arc.operator as usize) < operators
 }
 
-// The arcs, each between states that are there, by an operator that is there.
-fn check_arcs(states: usize, operators: usize, arcs: &[Arc]) -> Result<(), Fault>
-    requires { length arcs.now ≤ 65535 }
-    ensures { result ≡ answered (fault_at OutOfRange (first_failing (λ k. arc_fits states operators (slice_index_or arcs.now k no_arc)) (length arcs.now))) }
-{
-    for i in 0..arcs.len() {
-        if !is_in_range(states, operators, arcs[i]) {
-            return Err(Layer::Chart.fault(Kind::OutOfRange, i as u32));
-        }
-    }
-    Ok(())
-}
-
-// What the tables name is there.
-pub(crate) fn check_range(tables: ChartTables) -> Result<(), Fault>
-    requires { lengths_fit (contents tables) ≡ true }
-    ensures { result ≡ answered (range_fault (contents tables.entry)) }
-{
-    check_start(tables)?;
-    check_costs(tables.costs)?;
-    check_ends(tables.text.len(), tables.ends)?;
-    check_arcs(tables.goals.len(), tables.costs.len(), tables.arcs)
-}
-
-// The limits, and what the tables name.
-pub(crate) fn check_tables(tables: ChartTables) -> Result<(), Fault>
-    ensures { result ≡ answered (table_fault (contents tables.entry)) }
-{
-    check_lengths(tables)?;
-    check_range(tables)
-}
-
-// Whether no arc before this one has its state and operator.
-fn is_new(arcs: &[Arc], index: &[Entry], arc: usize) -> bool
-    requires within { arc < length arcs.now }
-    requires indexed { Indexed arcs.now index.now }
-    ensures { result ≡ new_arc arcs.now arc }
-{
-    match next_arc(arcs, index, arcs[arc].from, arcs[arc].operator) {
-        Some(first) => first == arc,
-        None => false,
-    }
-}
-
-// No two arcs have the same state and operator.
-fn check_repeats(arcs: &[Arc], index: &[Entry]) -> Result<(), Fault>
-    requires few { length arcs.now ≤ 65535 }
-    requires indexed { Indexed arcs.now index.now }
-    ensures { result ≡ answered (fault_at ArcRepeated (first_failing (new_arc arcs.now) (length arcs.now))) }
-{
-    for i in 0..arcs.len() {
-        if !is_new(arcs, index, i) {
-            return Err(Layer::Chart.fault(Kind::ArcRepeated, i as u32));
-        }
-    }
-    Ok(())
-}
-
 // The cost of an operator; 0 where there is none of that number.
 pub(crate) fn cost_at(costs: &[u32], operator: u32) -> u32
     ensures { result ≡ slice_index costs.now operator }
 {
-    let operator = operator as usize;
-    if operator < costs.len() {
-        costs[operator]
-    } else {
-        0
-    }
+    costs.get(operator as usize).copied().unwrap_or(0)
 }
 
 // The estimate of a state; none where it is hopeless or there is no such state.
 pub(crate) fn estimate_at(estimates: &[u32], state: usize) -> Option<u32>
     ensures { result ≡ hope (slice_index_or estimates.now state 4294967295) }
 {
-    if state >= estimates.len() {
-        return None;
-    }
-    let estimate = estimates[state];
-    if estimate < HOPELESS {
-        Some(estimate)
-    } else {
-        None
-    }
+    let estimate = *estimates.get(state)?;
+    (estimate < HOPELESS).then_some(estimate)
 }
 
 // Whether the state is no goal or has the estimate 0.
@@ -187,25 +69,7 @@ fn is_aware(goals: &[bool], estimates: &[u32], state: usize) -> bool
     requires estimate { state < length estimates.now }
     ensures { result ≡ goal_aware goals.now estimates.now state }
 {
-    if goals[state] {
-        estimates[state] == 0
-    } else {
-        true
-    }
-}
-
-// The goals, each with the estimate 0.
-fn check_goals(goals: &[bool], estimates: &[u32]) -> Result<(), Fault>
-    requires few { length goals.now ≤ 65535 }
-    requires same { length estimates.now ≡ length goals.now }
-    ensures { result ≡ answered (fault_at EstimateLaw (first_failing (goal_aware goals.now estimates.now) (length goals.now))) }
-{
-    for i in 0..goals.len() {
-        if !is_aware(goals, estimates, i) {
-            return Err(Layer::Chart.fault(Kind::EstimateLaw, i as u32));
-        }
-    }
-    Ok(())
+    !goals[state] || estimates[state] == 0
 }
 
 // Whether an estimate is at most the cost plus the other; none exceeds every number.
@@ -213,10 +77,11 @@ fn is_at_most(estimate: Option<u32>, cost: u32, other: Option<u32>) -> bool
     ensures { result ≡ at_most estimate cost other }
 {
     match (estimate, other) {
-        (Some(estimate), Some(other)) => estimate as u64 <= cost as u64 + other as u64,
+        (_, None) => true,
         (None, Some(_)) => false,
-        (Some(_), None) => true,
-        (None, None) => true,
+        (Some(estimate), Some(other)) => {
+            u64::from(estimate) <= u64::from(cost) + u64::from(other)
+        }
     }
 }
 
@@ -231,26 +96,119 @@ fn is_lawful(tables: ChartTables, arc: Arc) -> bool
     )
 }
 
-// The arcs, along which no estimate falls by more than the cost.
-fn check_estimates(tables: ChartTables) -> Result<(), Fault>
-    requires { length tables.arcs.now ≤ 65535 }
-    ensures { result ≡ answered (fault_at EstimateLaw (first_failing (λ k. arc_lawful (contents tables.entry) (slice_index_or tables.entry.arcs.now k no_arc)) (length tables.entry.arcs.now))) }
+// The fault of the first record, of so many, that fails the test.
+pub(crate) fn check_each<F: Fn(usize) -> bool>(
+    kind: Kind,
+    count: usize,
+    holds: F,
+) -> Result<(), Fault>
+    requires few { count ≤ 65535 }
+    requires callable { (i : ℕ) → i < count → F.pre holds i }
+    ensures { AnswersFirst (F.post holds) kind count result }
 {
-    for i in 0..tables.arcs.len() {
-        if !is_lawful(tables, tables.arcs[i]) {
-            return Err(Layer::Chart.fault(Kind::EstimateLaw, i as u32));
+    for i in 0..count {
+        if !holds(i) {
+            return Err(Layer::Chart.fault(kind, i as u32));
         }
     }
     Ok(())
 }
 
-// The checks that compare records, where the tables are in range.
-pub(crate) fn check_records(tables: ChartTables, index: &[Entry]) -> Result<(), Fault>
-    requires fit { lengths_fit (contents tables) ≡ true }
-    requires indexed { Indexed tables.arcs.now index.now }
-    ensures { result ≡ answered (or_else (repeat_fault (contents tables.entry)) (law_fault (contents tables.entry))) }
-{
-    check_repeats(tables.arcs, index)?;
-    check_goals(tables.goals, tables.estimates)?;
-    check_estimates(tables)
+impl<'a> FitTables<'a> {
+    // The tables, where they are within the limits.
+    fn of(tables: ChartTables<'a>) -> Result<FitTables<'a>, Fault>
+        ensures fit { IfOk result (λ t. t.tables ≡ tables.entry) }
+        ensures refused { IfErr result (λ f. limit_fault (contents tables.entry) ≡ Some f) }
+    {
+        let states = tables.goals.len();
+        let few_states = states >= 1 && states <= 65535 && tables.estimates.len() == states;
+        let operators = tables.costs.len();
+        let few_operators = operators <= 4096 && tables.ends.len() == operators;
+        if few_states && few_operators && tables.arcs.len() <= 65535 {
+            Ok(FitTables { tables })
+        } else {
+            Err(Layer::Chart.fault(Kind::OverLimit, 0))
+        }
+    }
+
+    // The tables, where they are within the limits and what they name is there.
+    pub fn checked(tables: ChartTables<'a>) -> Result<FitTables<'a>, Fault>
+        ensures fit { IfOk result (λ t. (t.tables ≡ tables.entry) × (table_fault (contents tables.entry) ≡ None)) }
+        ensures refused { IfErr result (λ f. table_fault (contents tables.entry) ≡ Some f) }
+    {
+        let fit = FitTables::of(tables)?;
+        fit.check_range()?;
+        Ok(fit)
+    }
+
+    // What the tables name is there.
+    fn check_range(&self) -> Result<(), Fault>
+        ensures { result ≡ answered (range_fault (contents self.now.tables)) }
+    {
+        self.check_start()?;
+        self.check_costs()?;
+        self.check_ends()?;
+        self.check_arcs()
+    }
+
+    // The start state.
+    fn check_start(&self) -> Result<(), Fault>
+        ensures { result ≡ answered (start_fault (contents self.now.tables)) }
+    {
+        if (self.tables.start as usize) < self.tables.goals.len() {
+            Ok(())
+        } else {
+            Err(Layer::Chart.fault(Kind::OutOfRange, 0))
+        }
+    }
+
+    // The costs, each 1 to 1,000,000.
+    fn check_costs(&self) -> Result<(), Fault>
+        ensures { result ≡ answered (costs_fault (contents self.now.tables)) }
+    {
+        let costs = self.tables.costs;
+        check_each(Kind::OutOfRange, costs.len(), |o| is_cost(costs[o]))
+    }
+
+    // The ends of names: they never fall, and stay within the text.
+    fn check_ends(&self) -> Result<(), Fault>
+        ensures { result ≡ answered (ends_fault (contents self.now.tables)) }
+    {
+        let bytes = self.tables.text.len();
+        let ends = self.tables.ends;
+        check_each(Kind::OutOfRange, ends.len(), |o| is_end(bytes, ends, o))
+    }
+
+    // The arcs, each between states that are there, by an operator that is there.
+    fn check_arcs(&self) -> Result<(), Fault>
+        ensures { result ≡ answered (arcs_fault (contents self.now.tables)) }
+    {
+        let states = self.tables.goals.len();
+        let operators = self.tables.costs.len();
+        let arcs = self.tables.arcs;
+        check_each(Kind::OutOfRange, arcs.len(), |k| {
+            is_in_range(states, operators, arcs[k])
+        })
+    }
+
+    // The goals, each with the estimate 0.
+    pub fn check_goals(&self) -> Result<(), Fault>
+        ensures { result ≡ answered (goals_fault (contents self.now.tables)) }
+    {
+        let goals = self.tables.goals;
+        let estimates = self.tables.estimates;
+        check_each(Kind::EstimateLaw, goals.len(), |s| {
+            is_aware(goals, estimates, s)
+        })
+    }
+
+    // The arcs, along which no estimate falls by more than the cost.
+    pub fn check_estimates(&self) -> Result<(), Fault>
+        ensures { result ≡ answered (estimates_fault (contents self.now.tables)) }
+    {
+        let tables = self.tables;
+        check_each(Kind::EstimateLaw, tables.arcs.len(), |k| {
+            is_lawful(tables, tables.arcs[k])
+        })
+    }
 }

@@ -1,3 +1,2 @@
 pub mod Cheap
-pub mod Leading
 pub mod Ways

@@ -1,4 +1,4 @@
 pub mod Completes
 pub mod Found
 pub mod Lists
-pub mod Refusal
+pub mod Moves

@@ -8,20 +8,23 @@ ghost use Rattle.enumerate.specs.Completes.{Completes, CompletesBelow};
 ghost use Rattle.enumerate.specs.Found.{Found};
 ghost use Rattle.enumerate.specs.Lists.{plans_of};
 
+mod moves;
+
+use moves::Moves;
 use std::alloc::{AllocError, Global};
+use std::iter;
 use task::Task;
 
-// The operator, then the steps of `tail`. Refuses only for want of memory.
+// The operator, then the steps of `tail`.
 fn led_by(heap: Global, operator: u32, tail: &[u32]) -> Result<Vec<u32>, AllocError>
     ensures { IfOk result (λ v. v.items ≡ operator ∷ tail.now) }
 {
-    let mut list = Vec::new(heap);
-    list.push(operator)?;
-    list.extend_from_slice(tail)?;
-    Ok(list)
+    iter::once(operator)
+        .chain(tail.iter().copied())
+        .collect(heap)
 }
 
-// Appends to `plans` each list of `tails` with the operator before it. Refuses only for want of memory.
+// Appends to `plans` each list of `tails` with the operator before it.
 fn append_led(
     heap: Global,
     plans: &mut Vec<Vec<u32>>,
@@ -31,13 +34,12 @@ fn append_led(
     ensures { IfOk result (λ _. plans_of plans.new ≡ plans_of plans.old ++ map (λ (os : List ℕ). operator ∷ os) (map vec_items tails.now)) }
 {
     for tail in tails {
-        plans.push(led_by(heap, operator, tail.as_slice())?)?;
+        plans.push(led_by(heap, operator, tail)?)?;
     }
     Ok(())
 }
 
-// The empty list where the price is 0 and the state is a goal, and no list otherwise. Refuses only for want
-// of memory.
+// The empty list where the price is 0 and the state is a goal, and no list otherwise.
 fn empty_if_done<T: Task>(
     heap: Global,
     task: &T,
@@ -46,15 +48,14 @@ fn empty_if_done<T: Task>(
 ) -> Result<Vec<Vec<u32>>, AllocError>
     ensures { IfOk result (λ v. AllOf Before (CompletesBelow (T.Task.meaning task.now) state price 0) (plans_of v)) }
 {
-    let mut plans = Vec::new(heap);
     if price == 0 && task.is_goal(state) {
-        plans.push(Vec::new(heap))?;
+        Ok(vec![in heap; Vec::new(heap)]?)
+    } else {
+        Ok(Vec::new(heap))
     }
-    Ok(plans)
 }
 
-// All lists of price exactly `price` that lead from `state` to a goal, in listing order. Refuses only for
-// want of memory.
+// All lists of price exactly `price` that lead from `state` to a goal, in listing order.
 pub fn completions<T: Task>(
     heap: Global,
     task: &T,
@@ -64,20 +65,17 @@ pub fn completions<T: Task>(
     ensures { IfOk result (λ v. AllOf Before (Completes (T.Task.meaning task.now) state price) (plans_of v)) }
 {
     let mut plans = empty_if_done(heap, task, state, price)?;
-    let mut from = 0;
-    while let Some((operator, target)) = task.next_move(state, from) {
+    for (operator, target) in Moves::of(task, state) {
         let cost = task.cost(operator);
         if cost <= price {
             let tails = completions(heap, task, target, price - cost)?;
-            append_led(heap, &mut plans, operator, tails.as_slice())?;
+            append_led(heap, &mut plans, operator, &tails)?;
         }
-        from = operator + 1;
     }
     Ok(plans)
 }
 
-// The cheapest plans, in listing order; none where no plan costs `highest` or less. Refuses only for want
-// of memory.
+// The cheapest plans, in listing order; none where no plan costs `highest` or less.
 pub fn cheapest<T: Task>(
     heap: Global,
     task: &T,

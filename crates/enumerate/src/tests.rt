@@ -47,7 +47,7 @@ impl Task for Fork {
 
 #[test]
 fn both_plans_are_cheapest(rt: HostRuntime) -> Result<(), Fail> {
-    let found = cheapest(rt.alloc(), &Fork, 3).ok().ok_or("no memory")?;
+    let found = cheapest(rt.alloc(), &Fork, 3)?;
     let plans = found.ok_or("no plan")?;
     assert!(rt; plans.len() == 2);
     assert!(rt; plans[0].as_slice() == [0].as_slice());
@@ -57,16 +57,14 @@ fn both_plans_are_cheapest(rt: HostRuntime) -> Result<(), Fail> {
 
 #[test]
 fn no_plan_costs_nothing(rt: HostRuntime) -> Result<(), Fail> {
-    let found = cheapest(rt.alloc(), &Fork, 0).ok().ok_or("no memory")?;
+    let found = cheapest(rt.alloc(), &Fork, 0)?;
     assert!(rt; found.is_none());
     Ok(())
 }
 
 #[test]
 fn a_goal_is_completed_by_no_step(rt: HostRuntime) -> Result<(), Fail> {
-    let plans = completions(rt.alloc(), &Fork, 1, 0)
-        .ok()
-        .ok_or("no memory")?;
+    let plans = completions(rt.alloc(), &Fork, 1, 0)?;
     assert!(rt; plans.len() == 1);
     assert!(rt; plans[0].is_empty());
     Ok(())

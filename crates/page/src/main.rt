@@ -98,9 +98,7 @@ fn show_plans<T: NamedTask>(rt: &HostRuntime, title: &str, task: &T) -> Result<(
             for steps in plans.iter() {
                 let mut text = [0; 512];
                 let length = write_plan(task, steps, &mut text)?;
-                if length <= 512 {
-                    rt.stdout().write_all(&text[0..length])?;
-                }
+                rt.stdout().write_all(&text[..length])?;
             }
         }
     }

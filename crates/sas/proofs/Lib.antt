@@ -1,5 +1,4 @@
-pub mod Tested
 pub mod Walks
 pub mod Ranges
+pub mod Cuts
 pub mod Scanned
-pub mod Answered

@@ -1,79 +1,53 @@
--- What the tests of the range check say. Assumes nothing.
-use Rattle.std.proofs.Common.{◌≡◌, ℕ, ◌+◌, ◌*◌, ◌^◌, ◌<◌, ◌≤◌, Bool, true, false, cond, ◌&&◌, leb, List, [], ◌∷◌, length, get_or, drop, Some, None, sym, refl, ap, ◌∙◌, mul_assoc, mul-one, arith}
+-- One turn of the walk that multiplies sizes. Assumes nothing.
+use Rattle.std.proofs.Common.{◌≡◌, ℕ, ◌+◌, ◌*◌, ◌^◌, ◌<◌, ◌≤◌, Bool, true, false, cond, ◌&&◌, leb, List, ◌∷◌, length, get_or, drop, Some, None, sym, refl, ap, ◌∙◌, mul_assoc, mul-one, arith}
+use Rattle.std.specs.List.{list_all}
+use Rattle.std.specs.Option.{option_and_then}
 use Rattle.std.proofs.lemmas.Nat.{mul-le}
-use Rattle.std.proofs.lemmas.List.{at_drop_more, at_drop_all, get_or-map, length-map}
-use Rattle.std.proofs.lemmas.Bool.{le-ltb, lt-ltb, lt-leb, le-leb}
-use Rattle.std.proofs.lemmas.Bool.Decides.{Decides-and}
+use Rattle.std.proofs.lemmas.List.{at_drop_more}
+use Rattle.std.proofs.lemmas.Option.{same_Some}
+use Rattle.std.proofs.lemmas.Bool.{lt-leb, leb-true, leb-false}
+use Rattle.task.proofs.Members.{each_weaker}
 use Rattle.sas.specs.declared.tables.Variable.{Variable}
-use Rattle.sas.specs.declared.tables.Condition.{Condition}
 use Rattle.sas.specs.States.{spanned}
-use Rattle.sas.specs.Checks.{each, size_fits, product, valid, condition_fits}
+use Rattle.sas.specs.Checks.{size_fits, times, product}
 use Rattle.sas.specs.Values.{Sized, sizes}
 use Rattle.sas.specs.Assigned.{spanned_positive}
-use Rattle.sas.specs.Found.{decides_size}
+use Rattle.sas.specs.Found.{decides_each, decides_size}
 use Rattle.sas.proofs.Walks.{no_variable}
 
--- the condition is of a variable that is not there
-pub condition_unknown : (vars : List Variable) (c : Condition) → length vars ≤ c.variable → condition_fits (sizes vars) c ≡ false
-condition_unknown vars c h =
-    ap (λ b. b && (valid c.before (get_or (sizes vars) c.variable 0) && valid c.after (get_or (sizes vars) c.variable 0)))
-    (le-ltb c.variable (length (sizes vars)) (omega (arith, length-map vars (λ v. v.size))))
+sized_from_each : (ns : List ℕ) → list_all size_fits ns ≡ true → Sized ns
+sized_from_each ns e = each_weaker (λ n. (1 ≤ n) × (n ≤ 1000)) (λ n. 1 ≤ n) (λ n p. p.0) ns ((decides_each size_fits _ decides_size ns).0 e)
 
-pub condition_known : (vars : List Variable) (c : Condition) → c.variable < length vars → condition_fits (sizes vars) c ≡ (valid c.before (get_or vars c.variable no_variable).size && valid c.after (get_or vars c.variable no_variable).size)
-condition_known vars c h =
-    ap (λ b. b && (valid c.before (get_or (sizes vars) c.variable 0) && valid c.after (get_or (sizes vars) c.variable 0)))
-    (lt-ltb c.variable (length (sizes vars)) (omega (arith, length-map vars (λ v. v.size))))
-    ∙ ap (λ n. valid c.before n && valid c.after n) (get_or-map (λ v. v.size) vars c.variable no_variable 0 h)
+-- one size more is one step more
+product_step : (p n : ℕ) (ns : List ℕ) → product p (n ∷ ns) ≡ option_and_then (λ q. product q ns) (times p n)
+product_step p n ns = go (size_fits n) (leb (p * n) (2 ^ 60)) refl
+  where
+    small : (b : Bool) → leb (p * n) (2 ^ 60) ≡ false → list_all size_fits ns ≡ b → cond (b && leb (p * (n * spanned ns)) (2 ^ 60)) (Some (p * (n * spanned ns))) None ≡ None
+    small false l e = refl
+    small true l e =
+        let grows : (p * n) * 1 ≤ (p * n) * spanned ns = mul-le (p * n) 1 (p * n) _ (omega arith) (spanned_positive ns (sized_from_each ns e)) in
+        ap (λ b. cond b (Some (p * (n * spanned ns))) None) (lt-leb (p * (n * spanned ns)) (2 ^ 60) (omega (arith, leb-false (p * n) (2 ^ 60) l, mul_assoc p n (spanned ns), mul-one (p * n))))
 
--- a size that fails one of the two tests
-pub size_small : (n : ℕ) → n < 1 → size_fits n ≡ false
-size_small n h = ap (λ b. b && leb n 1000) (lt-leb 1 n h)
+    go : (b d : Bool) → leb (p * n) (2 ^ 60) ≡ d → cond (b && list_all size_fits ns && leb (p * (n * spanned ns)) (2 ^ 60)) (Some (p * (n * spanned ns))) None ≡ option_and_then (λ q. product q ns) (cond (b && d) (Some (p * n)) None)
+    go false d l = refl
+    go true false l = small (list_all size_fits ns) l refl
+    go true true l = ap (λ q. cond (list_all size_fits ns && leb q (2 ^ 60)) (Some q) None) (sym (mul_assoc p n (spanned ns)))
 
-pub size_large : (n : ℕ) → 1 ≤ n → 1000 < n → size_fits n ≡ false
-size_large n h k = ap (λ b. b && leb n 1000) (le-leb 1 n h) ∙ lt-leb n 1000 k
-
-pub sized_from_each : (ns : List ℕ) → each size_fits ns ≡ true → Sized ns
-sized_from_each [] e = tt
-sized_from_each (n ∷ ns) e =
-    let both = (Decides-and (size_fits n) (each size_fits ns) (decides_size n) (λ x. x, λ x. x)).0 e in
-    (both.0.0, sized_from_each ns both.1)
+times_small : (p n q : ℕ) → times p n ≡ Some q → q ≤ 2 ^ 60
+times_small p n q e = go (size_fits n) (leb (p * n) (2 ^ 60)) refl e
+  where
+    go : (b d : Bool) → leb (p * n) (2 ^ 60) ≡ d → cond (b && d) (Some (p * n)) None ≡ Some q → q ≤ 2 ^ 60
+    go false d l e = absurd (grind arith)
+    go true false l e = absurd (grind arith)
+    go true true l e = omega (arith, leb-true (p * n) (2 ^ 60) l, same_Some (p * n) q e)
 
 module _ (vars : List Variable) (i p : ℕ) (h : i < length vars) where
-  product_here : product p (sizes (drop i vars)) ≡ product p ((get_or vars i no_variable).size ∷ sizes (drop (i + 1) vars))
-  product_here = at_drop_more (λ l. product p (sizes l)) vars i no_variable h
+  product_here : product p (sizes (drop i vars)) ≡ option_and_then (λ q. product q (sizes (drop (i + 1) vars))) (times p (get_or vars i no_variable).size)
+  product_here = at_drop_more (λ l. product p (sizes l)) vars i no_variable h ∙ product_step p (get_or vars i no_variable).size (sizes (drop (i + 1) vars))
 
-  -- a size out of range
-  pub product_odd : size_fits (get_or vars i no_variable).size ≡ false → product p (sizes (drop i vars)) ≡ None
-  product_odd e =
-      let n = (get_or vars i no_variable).size in
-      let ns = sizes (drop (i + 1) vars) in
-      product_here ∙ ap (λ b. cond (b && each size_fits ns && leb (p * (n * spanned ns)) (2 ^ 60)) (Some (p * (n * spanned ns))) None) e
+  pub product_none : times p (get_or vars i no_variable).size ≡ None → product p (sizes (drop i vars)) ≡ None
+  product_none e = product_here ∙ ap (option_and_then (λ q. product q (sizes (drop (i + 1) vars)))) e
 
-  pub product_large : size_fits (get_or vars i no_variable).size ≡ true → 2 ^ 60 < p * (get_or vars i no_variable).size → product p (sizes (drop i vars)) ≡ None
-  product_large e l =
-      product_here
-      ∙ (ap (λ b. cond (b && each size_fits ns && leb (p * (n * spanned ns)) (2 ^ 60)) (Some (p * (n * spanned ns))) None) e ∙ go (each size_fits ns) refl)
-    where
-      n : ℕ
-      n = (get_or vars i no_variable).size
-
-      ns : List ℕ
-      ns = sizes (drop (i + 1) vars)
-
-      go : (b : Bool) → each size_fits ns ≡ b → cond (b && leb (p * (n * spanned ns)) (2 ^ 60)) (Some (p * (n * spanned ns))) None ≡ None
-      go false f = refl
-      go true f =
-          let grows : (p * n) * 1 ≤ (p * n) * spanned ns = mul-le (p * n) 1 (p * n) _ (omega arith) (spanned_positive ns (sized_from_each ns f)) in
-          ap (λ b. cond b (Some (p * (n * spanned ns))) None) (lt-leb (p * (n * spanned ns)) (2 ^ 60) (omega (arith, mul_assoc p n (spanned ns), mul-one (p * n))))
-
-  pub product_more : size_fits (get_or vars i no_variable).size ≡ true → product p (sizes (drop i vars)) ≡ product (p * (get_or vars i no_variable).size) (sizes (drop (i + 1) vars))
-  product_more e =
-      let n = (get_or vars i no_variable).size in
-      let ns = sizes (drop (i + 1) vars) in
-      product_here
-      ∙ (ap (λ b. cond (b && each size_fits ns && leb (p * (n * spanned ns)) (2 ^ 60)) (Some (p * (n * spanned ns))) None) e ∙ ap (λ q. cond (each size_fits ns && leb q (2 ^ 60)) (Some q) None) (sym (mul_assoc p n (spanned ns))))
-
-pub product_all : (vars : List Variable) (i p : ℕ) → length vars ≤ i → p ≤ 2 ^ 60 → product p (sizes (drop i vars)) ≡ Some p
-product_all vars i p h l =
-    at_drop_all (λ l. product p (sizes l)) vars i h
-    ∙ (ap (λ q. cond (leb q (2 ^ 60)) (Some q) None) (mul-one p) ∙ ap (λ b. cond b (Some p) None) (le-leb p (2 ^ 60) l))
+  pub product_more : (q : ℕ) → times p (get_or vars i no_variable).size ≡ Some q → (q ≤ 2 ^ 60) × (product q (sizes (drop (i + 1) vars)) ≡ product p (sizes (drop i vars)))
+  product_more q e =
+      (times_small p (get_or vars i no_variable).size q e, sym (product_here ∙ ap (option_and_then (λ q. product q (sizes (drop (i + 1) vars)))) e))

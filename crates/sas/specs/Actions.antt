@@ -1,5 +1,6 @@
 -- What conditions ask of an assignment and do to it. Assumes nothing.
-use Rattle.std.specs.Prelude.{ℕ, Bool, true, ◌&&◌, List, [], ◌∷◌, Some, None, Option, ◌==◌, slice_index, slice_set}
+use Rattle.std.specs.Prelude.{ℕ, Bool, true, List, [], ◌∷◌, Some, None, Option, ◌==◌, slice_index, slice_set}
+use Rattle.std.specs.List.{list_all}
 use Rattle.sas.specs.declared.tables.Condition.{Condition}
 
 -- v is the value asked for, or any value will do
@@ -9,8 +10,7 @@ suits (Some b) v = v == b
 
 -- every condition has the value that it asks for before
 abbrev pub applies : List Condition → List ℕ → Bool
-applies [] vs = true
-applies (c ∷ cs) vs = suits c.before (slice_index vs c.variable) && applies cs vs
+applies cs vs = list_all (λ c. suits c.before (slice_index vs c.variable)) cs
 
 -- the values with a new one in place i, if there is a new one
 abbrev pub renewed : Option ℕ → ℕ → List ℕ → List ℕ

@@ -1,13 +1,21 @@
--- Tables in range mean a task that keeps the laws. Assumes nothing.
-use Rattle.std.proofs.Common.{◌≡◌, ℕ, ◌^◌, ◌<◌, ◌≤◌, Bool, true, false, cond, ◌&&◌, ltb, [], get_or, Some, None, sym, refl, ap, ◌∙◌, subst, subst₂, ⊎_elim, arith}
-use Rattle.std.proofs.lemmas.Bool.{cases_lt, and_parts, ltb-true, lt-ltb, cond-true}
+-- A SAS+ task within the limits keeps the laws. Assumes nothing.
+use Rattle.std.proofs.Common.{◌≡◌, ℕ, zero, suc, ◌^◌, ◌<◌, ◌≤◌, Bool, true, false, cond, ◌&&◌, ltb, List, [], ◌∷◌, length, Some, None, Option, sym, refl, ap, subst, subst₂, arith}
+use Rattle.std.specs.List.{slice_get}
+use Rattle.std.proofs.lemmas.Bool.{and_parts, ltb-true, lt-ltb, cond-true}
+use Rattle.std.proofs.lemmas.Option.{same_Some, slice_get_past}
+use Rattle.task.specs.Listing.{Each}
 use Rattle.task.specs.Model.{Lawful, AtMost}
 use Rattle.sas.specs.States.{spanned, values, numbered}
 use Rattle.sas.specs.Actions.{applies, changed}
-use Rattle.sas.specs.Sas.{cost_of, moved, meant}
-use Rattle.sas.specs.Tables.{Tables, InRange, sizes_of, sas_of, action_of, name_of, names_of}
+use Rattle.sas.specs.Sas.{Action, Sas, cost_of, moved, meant}
+use Rattle.sas.specs.Fits.{ActionFits, SasFits}
 use Rattle.sas.specs.Assigned.{values_below, changed_below, numbered_below, spanned_positive}
-use Rattle.sas.specs.Acts.{no_operator, actions_count, sizes_sized, action_there, action_past, operator_past, operator_fits_there, action_fits}
+
+-- a member that is there, with what holds of each
+pub member_of : {A : Type 0} (P : A → Type 0) (xs : List A) (i : ℕ) (x : A) → Each P xs → slice_get xs i ≡ Some x → (i < length xs) × P x
+member_of P [] i x e h = absurd (grind arith)
+member_of P (y ∷ xs) zero x e h = (omega arith, subst P (same_Some y x h) e.0)
+member_of P (y ∷ xs) (suc i) x e h = let m = member_of P xs i x e.1 h in (omega (arith, m.0), m.1)
 
 -- a test and its value, where the test passed
 passed : (s n u v : ℕ) (b d : Bool) → ltb s n ≡ b → v < n → cond (b && d) (Some v) None ≡ Some u → (s < n) × (u < n)
@@ -15,53 +23,49 @@ passed s n u v false d f l e = absurd (grind arith)
 passed s n u v true false f l e = absurd (grind arith)
 passed s n u v true true f l e = let same : v ≡ u = cc in (ltb-true s n f, omega (arith, l, same))
 
-module _ (t : Tables) (r : InRange t) where
-  estimated : (s : ℕ) → s < spanned (sizes_of t) → (meant (sas_of t)).estimate s ≡ Some 0
-  estimated s h = cond-true (ltb s (spanned (sizes_of t))) (Some 0) None (lt-ltb s (spanned (sizes_of t)) h)
+module _ (t : Sas) (f : SasFits t) where
+  estimated : (s : ℕ) → s < spanned t.sizes → (meant t).estimate s ≡ Some 0
+  estimated s h = cond-true (ltb s (spanned t.sizes)) (Some 0) None (lt-ltb s (spanned t.sizes) h)
 
-  price_at : (o : ℕ) → o < (meant (sas_of t)).operators → (1 ≤ (meant (sas_of t)).cost o) × ((meant (sas_of t)).cost o ≤ 1000000)
-  price_at o h =
-      let k : o < t.used.operators = omega (arith, actions_count t r) in
-      subst (λ a. (1 ≤ cost_of a) × (cost_of a ≤ 1000000)) (sym (action_there t r o k)) (operator_fits_there t r o k).priced
+  price_at : (o : ℕ) → o < length t.actions → (1 ≤ (meant t).cost o) × ((meant t).cost o ≤ 1000000)
+  price_at o h = go t.actions o h f.actions
+    where
+      go : (as' : List Action) (o : ℕ) → o < length as' → Each (ActionFits t.sizes) as' → (1 ≤ cost_of (slice_get as' o)) × (cost_of (slice_get as' o) ≤ 1000000)
+      go [] o h e = absurd (omega arith)
+      go (a ∷ as') zero h e = e.0.priced
+      go (a ∷ as') (suc o) h e = go as' o (omega arith) e.1
 
   -- an operator that is there leads from a state to a state
-  leads_within : (s o u : ℕ) → o < t.used.operators → (meant (sas_of t)).move s o ≡ Some u → (s < spanned (sizes_of t)) × (u < spanned (sizes_of t))
-  leads_within s o u h e =
-      let cs = (action_of t.conditions (get_or t.operators o no_operator)).conditions in
-      let low = numbered_below (sizes_of t) (changed cs (values (sizes_of t) s)) (changed_below (sizes_of t) cs (values (sizes_of t) s) (action_fits t r o h) (values_below (sizes_of t) s (sizes_sized t r))) in
-      passed s (spanned (sizes_of t)) u (numbered (sizes_of t) (changed cs (values (sizes_of t) s))) (ltb s (spanned (sizes_of t))) (applies cs (values (sizes_of t) s)) refl low
-      (sym (ap (λ a. moved (sizes_of t) a s) (action_there t r o h)) ∙ e)
-
-  moves_within : (s o u : ℕ) → (meant (sas_of t)).move s o ≡ Some u → (s < spanned (sizes_of t)) × (o < (meant (sas_of t)).operators) × (u < spanned (sizes_of t))
-  moves_within s o u e = ⊎_elim there past (cases_lt o t.used.operators)
+  moves_within : (s o u : ℕ) → (meant t).move s o ≡ Some u → (s < spanned t.sizes) × (o < length t.actions) × (u < spanned t.sizes)
+  moves_within s o u e = go (slice_get t.actions o) refl e
     where
-      there : o < t.used.operators → (s < spanned (sizes_of t)) × (o < (meant (sas_of t)).operators) × (u < spanned (sizes_of t))
-      there h = let l = leads_within s o u h e in (l.0, omega (arith, actions_count t r), l.1)
+      go : (a : Option Action) → slice_get t.actions o ≡ a → moved t.sizes a s ≡ Some u → (s < spanned t.sizes) × (o < length t.actions) × (u < spanned t.sizes)
+      go None h e = absurd (grind arith)
+      go (Some a) h e =
+          let m = member_of (ActionFits t.sizes) t.actions o a f.actions h in
+          let vs = values t.sizes s in
+          let low = numbered_below t.sizes (changed a.conditions vs) (changed_below t.sizes a.conditions vs m.1.fit (values_below t.sizes s f.sized)) in
+          let p = passed s (spanned t.sizes) u (numbered t.sizes (changed a.conditions vs)) (ltb s (spanned t.sizes)) (applies a.conditions vs) refl low e in
+          (p.0, m.0, p.1)
 
-      past : t.used.operators ≤ o → (s < spanned (sizes_of t)) × (o < (meant (sas_of t)).operators) × (u < spanned (sizes_of t))
-      past h = let none : None ≡ Some u = sym (ap (λ a. moved (sizes_of t) a s) (action_past t r o h)) ∙ e in absurd (grind arith)
+  goal_within : (s : ℕ) → (meant t).goal s ≡ true → s < spanned t.sizes
+  goal_within s e = ltb-true s (spanned t.sizes) (and_parts (ltb s (spanned t.sizes)) _ e).0
 
-  goal_within : (s : ℕ) → (meant (sas_of t)).goal s ≡ true → s < spanned (sizes_of t)
-  goal_within s e = ltb-true s (spanned (sizes_of t)) (and_parts (ltb s (spanned (sizes_of t))) _ e).0
+  estimate_within : (s h : ℕ) (b : Bool) → ltb s (spanned t.sizes) ≡ b → cond b (Some 0) None ≡ Some h → (s < spanned t.sizes) × (h < 2 ^ 40)
+  estimate_within s h false l e = absurd (grind arith)
+  estimate_within s h true l e = let same : 0 ≡ h = cc in (ltb-true s (spanned t.sizes) l, omega (arith, same))
 
-  estimate_within : (s h : ℕ) (b : Bool) → ltb s (spanned (sizes_of t)) ≡ b → cond b (Some 0) None ≡ Some h → (s < spanned (sizes_of t)) × (h < 2 ^ 40)
-  estimate_within s h false f e = absurd (grind arith)
-  estimate_within s h true f e = let same : 0 ≡ h = cc in (ltb-true s (spanned (sizes_of t)) f, omega (arith, same))
-
-  pub meant_lawful : Lawful (meant (sas_of t))
+  pub meant_lawful : Lawful (meant t)
   meant_lawful =
       record {
-        few = omega (arith, actions_count t r, r.operators.0);
+        few = omega (arith, f.few);
         priced = price_at;
-        unpriced = λ o h. ap cost_of (action_past t r o (omega (arith, actions_count t r)));
-        wide = (spanned_positive (sizes_of t) (sizes_sized t r), omega (arith, r.span));
-        starts = r.start;
+        unpriced = λ o h. ap cost_of (slice_get_past t.actions o h);
+        wide = (spanned_positive t.sizes f.sized, omega (arith, f.small));
+        starts = f.starts;
         moves = moves_within;
         inside = goal_within;
-        estimates = λ s h e. estimate_within s h (ltb s (spanned (sizes_of t))) refl e;
+        estimates = λ s h e. estimate_within s h (ltb s (spanned t.sizes)) refl e;
         aware = λ s e. estimated s (goal_within s e);
-        consistent = λ s o u e. let w = moves_within s o u e in subst₂ (λ g h. AtMost g ((meant (sas_of t)).cost o) h) (sym (estimated s w.0)) (sym (estimated u w.2)) (omega arith);
+        consistent = λ s o u e. let w = moves_within s o u e in subst₂ (λ g h. AtMost g ((meant t).cost o) h) (sym (estimated s w.0)) (sym (estimated u w.2)) (omega arith);
       }
-
-  pub meant_nameless : (o : ℕ) → (meant (sas_of t)).operators ≤ o → (names_of t).name o ≡ []
-  meant_nameless o h = ap (name_of t.bytes) (operator_past t r o (omega (arith, actions_count t r)))

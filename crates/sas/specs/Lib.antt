@@ -4,10 +4,9 @@ pub mod Sas
 pub mod Tables
 pub mod Checks
 pub mod Values
-pub mod Scans
 pub mod Meaning
 pub mod Assigned
+pub mod Fits
 pub mod Found
-pub mod Acts
 pub mod Lawful
 pub mod Makes

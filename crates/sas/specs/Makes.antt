@@ -1,72 +1,73 @@
--- What a made SasTask is known to hold. Assumes nothing.
-use Rattle.std.proofs.Common.{◌≡◌, ℕ, ◌≤◌, Bool, true, false, [], is_some, Some, None, Option, unwrap_or, sym, refl, ap, ◌∙◌, arith}
+-- What records in use are known to hold, and what a SasTask made of them is. Assumes nothing.
+use Rattle.std.proofs.Common.{◌≡◌, ℕ, ◌≤◌, [], length, Some, None, Option, refl, ap, arith}
+use Rattle.std.specs.Option.{option_map_or}
+use Rattle.std.proofs.lemmas.List.{length-map}
+use Rattle.std.proofs.lemmas.Option.{slice_get_past}
+use Rattle.task.specs.Listing.{Each}
 use Rattle.task.specs.Model.{Lawful}
+use Rattle.task.specs.Nothing.{nothing, no_names}
+use Rattle.task.proofs.Members.{each_take, each-drop, each_weaker, each_map}
 use Rattle.task.proofs.Nothing.{nothing_lawful}
+use Rattle.sas.specs.declared.in_use.InUse.{InUse}
 use Rattle.sas.specs.declared.shape.SasTask.{SasTask}
-use Rattle.sas.specs.States.{spanned}
-use Rattle.sas.specs.Tables.{Tables, InRange, sizes_of}
-use Rattle.sas.specs.Checks.{range}
-use Rattle.sas.specs.Meaning.{tables_of, meaning_of, naming_of, task_meaning, task_names, Made}
-use Rattle.sas.specs.Acts.{actions_count}
-use Rattle.sas.specs.Found.{found_in_range, in_range_found}
-use Rattle.sas.specs.Lawful.{meant_lawful, meant_nameless}
+use Rattle.sas.specs.declared.tables.Operator.{Operator}
+use Rattle.sas.specs.Tables.{ConditionFits, action_of, name_of}
+use Rattle.sas.specs.Fits.{ActionFits, SasFits}
+use Rattle.sas.specs.Values.{sizes}
+use Rattle.sas.specs.Meaning.{sas_in, meaning_in, names_in, task_meaning, task_names}
+use Rattle.sas.specs.Found.{OperatorWithin, SizesFit, decides_each, decides_condition, decides_operator, product_fits}
+use Rattle.sas.specs.Lawful.{meant_lawful}
 
-one_without : (x : Option ℕ) → is_some x ≡ false → unwrap_or x 1 ≡ 1
-one_without None h = refl
-one_without (Some s) h = absurd (grind arith)
+module _ (u : InUse) where
+  pub sizes_in : SizesFit (sizes u.variables.now)
+  sizes_in = (product_fits (sizes u.variables.now) u.span u.spans).0
 
-module _ (t : Tables) where
-  found_when : (x : Option ℕ) → range t ≡ x → is_some x ≡ true → InRange t × (unwrap_or x 1 ≡ spanned (sizes_of t))
-  found_when None e h = absurd (grind arith)
-  found_when (Some s) e h = in_range_found t s e
+  pub span_in : u.span ≡ (meaning_in u).span
+  span_in = (product_fits (sizes u.variables.now) u.span u.spans).1
 
-  not_found : (x : Option ℕ) → range t ≡ x → (InRange t → ⊥) → is_some x ≡ false
-  not_found None e h = refl
-  not_found (Some s) e h = absurd (h (in_range_found t s e).0)
+  pub conditions_in : Each (ConditionFits (sizes u.variables.now)) u.conditions.now
+  conditions_in = (decides_each _ _ (decides_condition (sizes u.variables.now)) u.conditions.now).0 u.conditions_fit
 
-module _ (s : SasTask) where
-  pub made_in_range : s.made ≡ true → InRange (tables_of s)
-  made_in_range m = (found_when (tables_of s) (range (tables_of s)) refl (sym s.checked ∙ m)).0
+  pub goal_in : Each (ConditionFits (sizes u.variables.now)) u.goal.now
+  goal_in = (decides_each _ _ (decides_condition (sizes u.variables.now)) u.goal.now).0 u.goal_fits
 
-  pub made_spans : s.made ≡ true → s.span ≡ spanned (sizes_of (tables_of s))
-  made_spans m = s.spans ∙ (found_when (tables_of s) (range (tables_of s)) refl (sym s.checked ∙ m)).1
+  pub operators_in : Each (OperatorWithin (length u.bytes.now) (length u.conditions.now)) u.operators.now
+  operators_in = (decides_each _ _ (decides_operator (length u.bytes.now) (length u.conditions.now)) u.operators.now).0 u.operators_fit
 
-  -- the span is that of the task, made or not
-  pub spans_task : s.span ≡ (task_meaning s).span
-  spans_task = go s.made refl
-    where
-      go : (b : Bool) → s.made ≡ b → s.span ≡ (meaning_of b (tables_of s)).span
-      go true e = made_spans e
-      go false e = s.spans ∙ one_without (range (tables_of s)) (sym s.checked ∙ e)
-
-  pub made_of_tables : Made (tables_of s) s
-  made_of_tables =
+  pub in_use_fits : SasFits (sas_in u)
+  in_use_fits =
       record {
-        held = λ r. both (s.checked ∙ ap is_some (found_in_range (tables_of s) r));
-        refused = λ n. both (s.checked ∙ not_found (tables_of s) (range (tables_of s)) refl n);
+        sized = each_weaker (λ n. (1 ≤ n) × (n ≤ 1000)) (λ n. 1 ≤ n) (λ n p. p.0) (sizes u.variables.now) sizes_in.sizes;
+        small = sizes_in.small;
+        starts = omega (arith, u.starts, span_in);
+        goal = goal_in;
+        few = omega (arith, length-map u.operators.now (action_of u.conditions.now), u.few_operators);
+        actions = each_map (action_of u.conditions.now) (ActionFits (sizes u.variables.now)) u.operators.now (each_weaker _ _ action_fits u.operators.now operators_in);
       }
     where
-      both : {b : Bool} → s.made ≡ b → (task_meaning s ≡ meaning_of b (tables_of s)) × (task_names s ≡ naming_of b (tables_of s))
-      both e = (ap (λ b. meaning_of b (tables_of s)) e, ap (λ b. naming_of b (tables_of s)) e)
+      action_fits : (o : Operator) → OperatorWithin (length u.bytes.now) (length u.conditions.now) o → ActionFits (sizes u.variables.now) (action_of u.conditions.now o)
+      action_fits o w =
+          record {
+            fit = each_take _ o.count _ (each-drop _ o.first u.conditions.now conditions_in);
+            priced = w.priced;
+          }
 
-  pub task_lawful : Lawful (task_meaning s)
-  task_lawful = go s.made refl
-    where
-      go : (b : Bool) → s.made ≡ b → Lawful (meaning_of b (tables_of s))
-      go true e = meant_lawful (tables_of s) (made_in_range e)
-      go false e = nothing_lawful
+  pub in_use_lawful : Lawful (meaning_in u)
+  in_use_lawful = meant_lawful (sas_in u) in_use_fits
 
-  pub task_nameless : (o : ℕ) → (task_meaning s).operators ≤ o → (task_names s).name o ≡ []
-  task_nameless o h = go s.made refl h
-    where
-      go : (b : Bool) → s.made ≡ b → (meaning_of b (tables_of s)).operators ≤ o → (naming_of b (tables_of s)).name o ≡ []
-      go true e h = meant_nameless (tables_of s) (made_in_range e) o h
-      go false e h = refl
+  pub in_use_nameless : (o : ℕ) → (meaning_in u).operators ≤ o → (names_in u).name o ≡ []
+  in_use_nameless o h = ap (name_of u.bytes.now) (slice_get_past u.operators.now o (omega (arith, length-map u.operators.now (action_of u.conditions.now), h)))
 
-  -- where the task is made its operators are those in use, and else there is none
-  pub no_more : (o : ℕ) → (s.made ≡ true → s.used.operators ≤ o) → (task_meaning s).operators ≤ o
-  no_more o f = go s.made refl
-    where
-      go : (b : Bool) → s.made ≡ b → (meaning_of b (tables_of s)).operators ≤ o
-      go true e = omega (arith, actions_count (tables_of s) (made_in_range e), f e)
-      go false e = omega arith
+pub task_lawful : (s : SasTask) → Lawful (task_meaning s)
+task_lawful s = go s.in_use
+  where
+    go : (o : Option InUse) → Lawful (option_map_or meaning_in o nothing)
+    go None = nothing_lawful
+    go (Some u) = in_use_lawful u
+
+pub task_nameless : (s : SasTask) (o : ℕ) → (task_meaning s).operators ≤ o → (task_names s).name o ≡ []
+task_nameless s o h = go s.in_use h
+  where
+    go : (x : Option InUse) → (option_map_or meaning_in x nothing).operators ≤ o → (option_map_or names_in x no_names).name o ≡ []
+    go None h = refl
+    go (Some u) h = in_use_nameless u o h

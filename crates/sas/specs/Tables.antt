@@ -1,5 +1,6 @@
 -- The SAS+ task and the names that three tables hold, and when they are in range. Assumes nothing.
 use Rattle.std.specs.Prelude.{ℕ, ◌+◌, ◌^◌, ◌<◌, ◌≤◌, List, [], map, length, take, drop, Some, None, Option, slice_index}
+use Rattle.std.specs.List.{slice_get}
 use Rattle.task.specs.Listing.{Each}
 use Rattle.task.specs.Names.{Names}
 use Rattle.sas.specs.declared.tables.Variable.{Variable}
@@ -7,7 +8,7 @@ use Rattle.sas.specs.declared.tables.Condition.{Condition}
 use Rattle.sas.specs.declared.tables.Operator.{Operator}
 use Rattle.sas.specs.declared.tables.Reading.{Reading}
 use Rattle.sas.specs.States.{spanned}
-use Rattle.sas.specs.Sas.{Action, Sas, nth}
+use Rattle.sas.specs.Sas.{Action, Sas}
 
 -- the bytes of the file, the three tables, and how much of them is in use
 pub record Tables : Type 0 where
@@ -44,7 +45,7 @@ name_of bs None = []
 name_of bs (Some o) = part bs o.name o.name_length
 
 abbrev pub names_of : Tables → Names
-names_of t = record { name = λ o. name_of t.bytes (nth (used_operators t) o); unit = t.used.unit_cost }
+names_of t = record { name = λ o. name_of t.bytes (slice_get (used_operators t) o); unit = t.used.unit_cost }
 
 -- a value, if there is one, is a value of the variable
 abbrev pub Valid : Option ℕ → ℕ → Type 0

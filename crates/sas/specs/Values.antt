@@ -1,5 +1,5 @@
 -- Which values variables may have, and which variables conditions may name. Assumes nothing.
-use Rattle.std.specs.Prelude.{ℕ, ◌<◌, ◌≤◌, List, [], ◌∷◌, map}
+use Rattle.std.specs.Prelude.{ℕ, ◌<◌, ◌≤◌, List, [], ◌∷◌, map, All}
 use Rattle.task.specs.Listing.{Each}
 use Rattle.sas.specs.declared.tables.Variable.{Variable}
 use Rattle.sas.specs.declared.tables.Condition.{Condition}
@@ -20,4 +20,4 @@ Below (n ∷ ns) (v ∷ vs) = (v < n) × Below ns vs
 
 -- the conditions are of the first n variables
 abbrev pub Within : ℕ → List Condition → Type 0
-Within n cs = Each (λ c. c.variable < n) cs
+Within n cs = All (λ c. c.variable < n) cs

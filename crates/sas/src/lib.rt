@@ -2,11 +2,11 @@
 // empty task, so that making a task never fails.
 #![tactic(auto)]
 
-mod moves;
+mod in_use;
 mod range;
 mod shape;
 mod tables;
 mod values;
 
 pub use shape::SasTask;
-pub use tables::{Condition, Operator, Reading, Variable};
+pub use tables::{Condition, Operator, Reading, SasTables, Variable};

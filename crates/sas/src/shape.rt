@@ -1,22 +1,80 @@
-// The task that three tables hold.
-ghost use Rattle.std.specs.Prelude.{◌≡◌, is_some};
-ghost use Rattle.std.specs.Option.{unwrap_or};
-ghost use Rattle.sas.specs.Checks.{range, tables};
+// The task made from tables, and its calls.
+ghost use Rattle.sas.specs.Checks.{contents};
+ghost use Rattle.sas.specs.Makes.{task_lawful, task_nameless};
+ghost use Rattle.sas.specs.Meaning.{Made, task_meaning, task_names};
 
-use crate::tables::{Condition, Operator, Reading, Variable};
+use crate::in_use::InUse;
+use crate::tables::SasTables;
+use task::{NamedTask, Task};
 
-mod calls;
-
-// The task of the tables where `made`, and the empty task where not; `span` is its number of states.
+// The task of the records in use where the tables are in range, and the empty task where not.
 #[derive(Clone, Copy)]
 pub struct SasTask<'a> {
-    bytes: &'a [u8],
-    variables: &'a [Variable],
-    operators: &'a [Operator],
-    conditions: &'a [Condition],
-    used: Reading,
-    span: u64,
-    made: bool,
-    ghost checked: { made ≡ is_some (range (tables bytes.now variables.now operators.now conditions.now used)) },
-    ghost spans: { span ≡ unwrap_or (range (tables bytes.now variables.now operators.now conditions.now used)) 1 },
+    in_use: Option<InUse<'a>>,
+}
+
+impl<'a> SasTask<'a> {
+    // The task that the tables hold; the empty task where they are not in range.
+    pub fn new(tables: SasTables<'a>) -> SasTask<'a>
+        ensures { Made (contents tables.entry) result }
+    {
+        SasTask {
+            in_use: InUse::of(tables),
+        }
+    }
+}
+
+impl Task for SasTask<'_> {
+    ghost meaning = { task_meaning };
+
+    ghost lawful = { task_lawful };
+
+    fn operators(&self) -> u32 {
+        self.in_use.map_or(0, |task| task.operators())
+    }
+
+    fn cost(&self, operator: u32) -> u32 {
+        self.in_use.map_or(0, |task| task.cost(operator))
+    }
+
+    fn span(&self) -> u64 {
+        self.in_use.map_or(1, |task| task.span())
+    }
+
+    fn start(&self) -> u64 {
+        self.in_use.map_or(0, |task| task.start())
+    }
+
+    fn is_goal(&self, state: u64) -> bool {
+        self.in_use.is_some_and(|task| task.is_goal(state))
+    }
+
+    fn estimate(&self, state: u64) -> Option<u64> {
+        self.in_use.and_then(|task| task.estimate(state))
+    }
+
+    fn step(&self, state: u64, operator: u32) -> Option<u64> {
+        self.in_use.and_then(|task| task.step(state, operator))
+    }
+
+    fn next_move(&self, state: u64, from: u32) -> Option<(u32, u64)> {
+        self.in_use.and_then(|task| task.next_move(state, from))
+    }
+}
+
+impl NamedTask for SasTask<'_> {
+    ghost names = { task_names };
+
+    ghost nameless = { task_nameless };
+
+    fn name(&self, operator: u32) -> &[u8] {
+        match &self.in_use {
+            Some(task) => task.name(operator),
+            None => &[],
+        }
+    }
+
+    fn unit_cost(&self) -> bool {
+        self.in_use.is_some_and(|task| task.unit_cost())
+    }
 }

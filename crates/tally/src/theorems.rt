@@ -7,16 +7,12 @@ ghost use Rattle.tally.specs.Theorems.{AnyOrder, AnyParts, Keeps};
 use crate::tallies::Tally;
 
 // The join of a list of values depends neither on their order nor on bracketing, whatever the tally.
-pub fn joins_in_any_order<Y: Tally>(_tally: &Y) -> u8
+pub fn joins_in_any_order<Y: Tally>(_tally: &Y)
     ensures order { AnyOrder (Y.meaning _tally.now) }
     ensures parts { AnyParts (Y.meaning _tally.now) }
-{
-    0
-}
+{}
 
 // Unit, extension and join of a watched operator make only pairs.
-pub fn only_pairs() -> u8
+pub fn only_pairs()
     ensures { (w : ℕ) → Keeps (watching w) IsPair }
-{
-    0
-}
+{}

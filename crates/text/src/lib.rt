@@ -1,7 +1,6 @@
 // The bytes that a program writes: a plan's text, and the line that says why a program stopped.
 #![tactic(auto)]
 
-mod digits;
 mod parts;
 mod plan;
 mod refusal;

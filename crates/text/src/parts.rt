@@ -1,52 +1,33 @@
-// Pieces of text, one after another, at a place of a lent buffer.
-ghost use Rattle.std.specs.Prelude.{◌≡◌, ◌+◌, ◌≤◌, length};
-ghost use Rattle.text.specs.Buffer.{after, fit, pieces, placed};
+// Pieces of text, one after another, at the front of a lent buffer.
+ghost use Rattle.std.specs.Prelude.{◌≡◌, ◌≤◌, length};
+ghost use Rattle.text.specs.Buffer.{after, fit, over, pieces, room_behind};
 
 use task::{Fault, Kind, Layer};
 
-// Where `length` more bytes end; refused where that is past the room.
-fn end_of(at: usize, length: usize, room: usize) -> Result<usize, Fault>
-    requires { at ≤ room }
-    ensures { result ≡ fit room (at + length) }
+// The room that the pieces leave behind them; refused where they are longer than the room.
+pub(crate) fn room_behind(parts: &[&[u8]], room: usize) -> Result<usize, Fault>
+    ensures { result ≡ room_behind room (length (pieces parts.now)) }
 {
-    if room - at < length {
-        return Err(Layer::Text.fault(Kind::BufferShort, 0));
-    }
-    Ok(at + length)
-}
-
-// Where the pieces end, if they begin at `at`; refused where that is past the room.
-pub(crate) fn end_of_all(at: usize, parts: &[&[u8]], room: usize) -> Result<usize, Fault>
-    requires { at ≤ room }
-    ensures { result ≡ fit room (at + length (pieces parts.now)) }
-{
-    let mut end = at;
+    let mut left = room;
     for part in parts {
-        end = end_of(end, part.len(), room)?;
+        left = left
+            .checked_sub(part.len())
+            .ok_or(Layer::Text.fault(Kind::BufferShort, 0))?;
     }
-    Ok(end)
+    Ok(left)
 }
 
-// Writes the bytes at a place, and says where they end.
-fn put(text: &mut [u8], at: usize, bytes: &[u8]) -> usize
-    requires { at + length bytes.now ≤ length text.old }
-    ensures end { result ≡ at + length bytes.now }
-    ensures after { text.new ≡ placed text.old at bytes.now }
+// Writes the pieces over the front of the text, and says where they end.
+pub(crate) fn put_all(parts: &[&[u8]], text: &mut [u8]) -> usize
+    requires { length (pieces parts.now) ≤ length text.old }
+    ensures end { result ≡ length (pieces parts.now) }
+    ensures after { text.new ≡ over (pieces parts.now) text.old }
 {
-    let end = at + bytes.len();
-    text[at..end].copy_from_slice(bytes);
-    end
-}
-
-// Writes the pieces at a place, one after another, and says where they end.
-pub(crate) fn put_all(text: &mut [u8], at: usize, parts: &[&[u8]]) -> usize
-    requires { at + length (pieces parts.now) ≤ length text.old }
-    ensures end { result ≡ at + length (pieces parts.now) }
-    ensures after { text.new ≡ placed text.old at (pieces parts.now) }
-{
-    let mut end = at;
+    let mut end = 0;
     for part in parts {
-        end = put(text, end, part);
+        let next = end + part.len();
+        text[end..next].copy_from_slice(part);
+        end = next;
     }
     end
 }
@@ -56,6 +37,6 @@ pub(crate) fn write_all(parts: &[&[u8]], text: &mut [u8]) -> Result<usize, Fault
     ensures answers { result ≡ fit (length text.old) (length (pieces parts.now)) }
     ensures buffer { text.new ≡ after result (pieces parts.now) text.old }
 {
-    end_of_all(0, parts, text.len())?;
-    Ok(put_all(text, 0, parts))
+    room_behind(parts, text.len())?;
+    Ok(put_all(parts, text))
 }

@@ -1,11 +1,11 @@
 // A plan's text.
-ghost use Rattle.std.specs.Prelude.{◌≡◌, ◌≤◌, ◌++◌, length};
+ghost use Rattle.std.specs.Prelude.{◌≡◌, ◌<◌, ◌≤◌, ◌++◌, length, IfSome};
 ghost use Rattle.task.specs.Plans.{price};
-ghost use Rattle.text.specs.Buffer.{after, fit, placed, pieces};
+ghost use Rattle.text.specs.Buffer.{after, fit, over, pieces, room_behind};
 ghost use Rattle.text.specs.PlanText.{answer, check_count, check_known, cost_ending, first_unknown, plan_text, step_line, step_lines};
 
-use super::digits::spell;
-use super::parts::{end_of_all, put_all};
+use super::parts::{put_all, room_behind};
+use itoa::Buffer;
 use task::{Fault, Kind, Layer, NamedTask, Task};
 
 // Refused where there are more than 65,535 steps.
@@ -18,18 +18,24 @@ fn check_count(steps: &[u32]) -> Result<(), Fault>
     Ok(())
 }
 
+// The place of the first step that is no operator of the task, if there is one.
+fn first_unknown<T: Task>(task: &T, steps: &[u32]) -> Option<usize>
+    ensures first { result ≡ first_unknown (T.Task.meaning task.now).operators 0 steps.now }
+    ensures within { IfSome result (λ place. place < length steps.now) }
+{
+    let operators = task.operators();
+    steps.iter().position(|step| *step >= operators)
+}
+
 // Refused at the first step that is no operator of the task.
 fn check_operators<T: Task>(task: &T, steps: &[u32]) -> Result<(), Fault>
     requires { length steps.now ≤ 65535 }
     ensures { result ≡ check_known (first_unknown (T.Task.meaning task.now).operators 0 steps.now) }
 {
-    let operators = task.operators();
-    for (place, step) in steps.iter().enumerate() {
-        if *step >= operators {
-            return Err(Layer::Text.fault(Kind::OutOfRange, place as u32));
-        }
+    match first_unknown(task, steps) {
+        None => Ok(()),
+        Some(place) => Err(Layer::Text.fault(Kind::OutOfRange, place as u32)),
     }
-    Ok(())
 }
 
 // The sum of the steps' costs.
@@ -37,11 +43,7 @@ fn total<T: Task>(task: &T, steps: &[u32]) -> u64
     requires { length steps.now ≤ 65535 }
     ensures { result ≡ price (T.Task.meaning task.now) steps.now }
 {
-    let mut sum = 0;
-    for step in steps {
-        sum += u64::from(task.cost(*step));
-    }
-    sum
+    steps.iter().map(|step| u64::from(task.cost(*step))).sum()
 }
 
 // How the cost line ends.
@@ -62,30 +64,33 @@ fn step_pieces<'a, T: NamedTask>(task: &'a T, step: u32) -> [&'a [u8]; 3]
     [b"(", task.name(step), b")\n"]
 }
 
-// Where the steps' lines end; refused where that is past the room.
-fn end_of_steps<T: NamedTask>(task: &T, steps: &[u32], room: usize) -> Result<usize, Fault>
-    ensures { result ≡ fit room (length (step_lines (T.NamedTask.names task.now) steps.now)) }
+// The room that the steps' lines leave behind them; refused where they are longer than the room.
+fn room_behind_steps<T: NamedTask>(task: &T, steps: &[u32], room: usize) -> Result<usize, Fault>
+    ensures { result ≡ room_behind room (length (step_lines (T.NamedTask.names task.now) steps.now)) }
 {
-    let mut end = 0;
+    let mut left = room;
     for step in steps {
-        end = end_of_all(end, &step_pieces(task, *step), room)?;
+        left = room_behind(&step_pieces(task, *step), left)?;
     }
-    Ok(end)
+    Ok(left)
 }
 
-// Writes the steps' lines at the front of the text.
-fn put_steps<T: NamedTask>(task: &T, steps: &[u32], text: &mut [u8])
+// Writes the steps' lines over the front of the text, and says where they end.
+fn put_steps<T: NamedTask>(task: &T, steps: &[u32], text: &mut [u8]) -> usize
     requires { length (step_lines (T.NamedTask.names task.now) steps.now) ≤ length text.old }
-    ensures { text.new ≡ placed text.old 0 (step_lines (T.NamedTask.names task.now) steps.now) }
+    ensures end { result ≡ length (step_lines (T.NamedTask.names task.now) steps.now) }
+    ensures after { text.new ≡ over (step_lines (T.NamedTask.names task.now) steps.now) text.old }
 {
     let mut end = 0;
     for step in steps {
-        end = put_all(text, end, &step_pieces(task, *step));
+        end += put_all(&step_pieces(task, *step), &mut text[end..]);
     }
+    end
 }
 
 // The steps' lines and then the last pieces at the front of `text`, and where they end; later bytes stay.
-// Refused where they do not fit.
+// Refused where they do not fit. Two passes over the steps: a refusal leaves the text as it was, so all is
+// measured before anything is written.
 fn write_lines<T: NamedTask>(
     task: &T,
     steps: &[u32],
@@ -95,10 +100,9 @@ fn write_lines<T: NamedTask>(
     ensures answers { result ≡ fit (length text.old) (length (step_lines (T.NamedTask.names task.now) steps.now ++ pieces last.now)) }
     ensures buffer { text.new ≡ after result (step_lines (T.NamedTask.names task.now) steps.now ++ pieces last.now) text.old }
 {
-    let end = end_of_steps(task, steps, text.len())?;
-    end_of_all(end, last, text.len())?;
-    put_steps(task, steps, text);
-    Ok(put_all(text, end, last))
+    room_behind(last, room_behind_steps(task, steps, text.len())?)?;
+    let end = put_steps(task, steps, text);
+    Ok(end + put_all(last, &mut text[end..]))
 }
 
 // The plan's text at the front of `text`, and its length; later bytes stay. Refused where there are more
@@ -109,11 +113,10 @@ pub fn write_plan<T: NamedTask>(task: &T, steps: &[u32], text: &mut [u8]) -> Res
 {
     check_count(steps)?;
     check_operators(task, steps)?;
-    let mut digits = [0; 20];
-    let from = spell(total(task, steps), &mut digits);
+    let mut digits = Buffer::new();
     let cost: [&[u8]; 3] = [
         b"; cost = ",
-        &digits[from..20],
+        digits.format(total(task, steps)).as_bytes(),
         cost_ending(task.unit_cost()),
     ];
     write_lines(task, steps, &cost, text)

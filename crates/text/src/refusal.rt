@@ -3,8 +3,8 @@ ghost use Rattle.std.specs.Prelude.{◌≡◌, length};
 ghost use Rattle.text.specs.Buffer.{after, fit};
 ghost use Rattle.text.specs.RefusalLine.{refusal_line};
 
-use super::digits::spell;
 use super::parts::write_all;
+use itoa::Buffer;
 use task::Fault;
 
 // The line at the front of `text`, and its length; later bytes stay. Refused where it does not fit.
@@ -15,15 +15,13 @@ pub fn write_refusal(fault: Fault, text: &mut [u8]) -> Result<usize, Fault>
     let Some(number) = fault.kind.number() else {
         return write_all(&[b"out of memory\n"], text);
     };
-    let mut kind = [0; 20];
-    let kind_from = spell(u64::from(number), &mut kind);
-    let mut place = [0; 20];
-    let place_from = spell(u64::from(fault.place), &mut place);
+    let mut kind = Buffer::new();
+    let mut place = Buffer::new();
     let parts: [&[u8]; 5] = [
         b"refused ",
-        &kind[kind_from..20],
+        kind.format(number).as_bytes(),
         b" at ",
-        &place[place_from..20],
+        place.format(fault.place).as_bytes(),
         b"\n",
     ];
     write_all(&parts, text)

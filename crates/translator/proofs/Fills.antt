@@ -1,35 +1,20 @@
 -- Tables that are filled record by record. Assumes nothing.
-use Rattle.std.proofs.Common.{◌≡◌, ℕ, ◌+◌, ◌≤◌, Bool, true, false, cond, List, [], ◌∷◌, ◌++◌, length, take, drop, set, sym, refl, ap, ◌∙◌, add-zero, arith}
+use Rattle.std.proofs.Common.{◌≡◌, ℕ, ◌+◌, ◌≤◌, List, [], ◌∷◌, ◌++◌, length, take, drop, set, sym, ap, ◌∙◌, add-zero, arith}
 use Rattle.std.proofs.lemmas.List.{length-set, append_assoc, drop-set-lt, take_more_set, take-append-drop}
-use Rattle.std.proofs.lemmas.Bool.{true≢false}
-use Rattle.translator.specs.Filling.{put, filled}
+use Rattle.translator.specs.Filling.{put}
 
 module _ {A : Type 0} where
-  pub put-append : (t : List A) (i : ℕ) (xs ys : List A) → put t i (xs ++ ys) ≡ put (put t i xs) (i + length xs) ys
+  put-append : (t : List A) (i : ℕ) (xs ys : List A) → put t i (xs ++ ys) ≡ put (put t i xs) (i + length xs) ys
   put-append t i [] ys = ap (λ k. put t k ys) (omega arith)
   put-append t i (x ∷ xs) ys = put-append (set t i x) (i + 1) xs ys ∙ ap (λ k. put (put (set t i x) (i + 1) xs) k ys) (omega arith)
 
-  pub length-put : (t : List A) (i : ℕ) (xs : List A) → length (put t i xs) ≡ length t
-  length-put t i [] = refl
-  length-put t i (x ∷ xs) = length-put (set t i x) (i + 1) xs ∙ length-set t i x
-
-  pub none_filled : (write : Bool) (t : List A) (i : ℕ) → t ≡ filled write t i []
-  none_filled true t i = refl
-  none_filled false t i = refl
-
   -- one record more
-  pub filled_more : (write : Bool) (t u : List A) (i : ℕ) (xs : List A) (x : A) → u ≡ filled write t i xs → cond write (set u (i + length xs) x) u ≡ filled write t i (xs ++ x ∷ [])
-  filled_more true t u i xs x e = ap (λ l. set l (i + length xs) x) e ∙ sym (put-append t i xs (x ∷ []))
-  filled_more false t u i xs x e = e
+  pub put_more : (t u : List A) (i : ℕ) (xs : List A) (x : A) → u ≡ put t i xs → set u (i + length xs) x ≡ put t i (xs ++ x ∷ [])
+  put_more t u i xs x e = ap (λ l. set l (i + length xs) x) e ∙ sym (put-append t i xs (x ∷ []))
 
   -- more records behind those that stand
-  pub filled-append : (write : Bool) (t u w : List A) (i : ℕ) (xs ys : List A) → u ≡ filled write t i xs → w ≡ filled write u (i + length xs) ys → w ≡ filled write t i (xs ++ ys)
-  filled-append true t u w i xs ys e f = f ∙ ap (λ l. put l (i + length xs) ys) e ∙ sym (put-append t i xs ys)
-  filled-append false t u w i xs ys e f = f ∙ e
-
-  pub unfilled : (write : Bool) (t u : List A) (i : ℕ) (xs : List A) → u ≡ filled write t i xs → write ≡ false → u ≡ t
-  unfilled true t u i xs e f = absurd (true≢false f)
-  unfilled false t u i xs e f = e
+  pub put_then : (t u w : List A) (i : ℕ) (xs ys : List A) → u ≡ put t i xs → w ≡ put u (i + length xs) ys → w ≡ put t i (xs ++ ys)
+  put_then t u w i xs ys e f = f ∙ ap (λ l. put l (i + length xs) ys) e ∙ sym (put-append t i xs ys)
 
   -- records put in front of a table, and what stood behind them
   put_front : (t : List A) (i : ℕ) (xs : List A) → i + length xs ≤ length t → put t i xs ≡ take i t ++ (xs ++ drop (i + length xs) t)

@@ -6,6 +6,6 @@ pub mod Operators
 pub mod Passes
 pub mod Places
 pub mod Repeats
-pub mod Sizes
+pub mod Spans
 pub mod Starts
 pub mod Wholes

@@ -1,6 +1,6 @@
 -- The start values read so far, and the number that they make. Assumes nothing.
 use Rattle.std.proofs.Common.{◌≡◌, ℕ, ◌+◌, ◌-◌, ◌*◌, ◌^◌, ◌<◌, ◌≤◌, List, [], ◌∷◌, ◌++◌, length, get_or, take, drop, Ok, Err, sym, refl, ap, ◌∙◌, subst, mul_assoc, mul_comm, mul-le-mul_left, mul-one, mul-add, arith}
-use Rattle.std.proofs.lemmas.List.{length_push, length-take-le, take_more, take-append-drop, take_all}
+use Rattle.std.proofs.lemmas.List.{length_push, length-take-le, take_more, take-append-drop}
 use Rattle.task.specs.declared.faults.Fault.{Fault}
 use Rattle.task.specs.declared.faults.Kind.TheVariants.{BadNumber}
 use Rattle.task.proofs.Members.{each_at, each-drop}
@@ -9,8 +9,8 @@ use Rattle.sas.specs.Assigned.{spanned_positive}
 use Rattle.translator.specs.Lines.{Place}
 use Rattle.translator.specs.Sections.{repeated, number_line, start_line}
 use Rattle.translator.specs.Sound.{SoundSizes}
-use Rattle.translator.proofs.Sizes.{spanned-push}
-use Rattle.translator.proofs.Repeats.{repeat_on, repeat_fault, repeat_done, chain, stop}
+use Rattle.translator.proofs.Spans.{spanned-push}
+use Rattle.translator.proofs.Repeats.{repeat_on, repeat_fault, chain, stop}
 
 summed-push : (w : ℕ) (ns vs : List ℕ) (n v : ℕ) → length vs ≡ length ns → summed w (ns ++ n ∷ []) (vs ++ v ∷ []) ≡ summed w ns vs + w * spanned ns * v
 summed-push w [] [] n v e = omega (arith, ap (λ k. k * v) (mul-one w))
@@ -37,17 +37,6 @@ module _ (ns : List ℕ) (sound : SoundSizes ns) where
     pub weighs : weight ≡ spanned (take i ns)
     pub is : number ≡ numbered (take i ns) vs
     pub below : number < weight
-
-  pub none_yet : (p₀ : Place) → Sofar p₀ 0 p₀ 0 1 []
-  none_yet p₀ =
-      record {
-        on = ap (λ n. repeated (start_line ns) n [] p₀) (omega arith);
-        long = refl;
-        inside = omega arith;
-        weighs = refl;
-        is = refl;
-        below = omega arith;
-      }
 
   module _ {p₀ : Place} {i : ℕ} {p : Place} {number weight : ℕ} {vs : List ℕ} (so : Sofar p₀ i p number weight vs) (here : i < length ns) where
     next_front : spanned (take (i + 1) ns) ≡ weight * get_or ns i 0
@@ -77,6 +66,3 @@ module _ (ns : List ℕ) (sound : SoundSizes ns) where
 
     pub value_fault : (size : ℕ) → size ≡ get_or ns i 0 → (f : Fault) → number_line 0 (size - 1) BadNumber BadNumber p ≡ Err f → repeated (start_line ns) (length ns) [] p₀ ≡ Err f
     value_fault size at f reads = repeat_fault (start_line ns) (length ns) i vs p _ here so.on f (stop _ (subst (λ k. number_line 0 (k - 1) BadNumber BadNumber p ≡ Err f) (at ∙ ap (λ k. get_or ns k 0) (sym so.long)) reads))
-
-  pub values_done : {p₀ : Place} {i : ℕ} {p : Place} {number weight : ℕ} {vs : List ℕ} → Sofar p₀ i p number weight vs → length ns ≤ i → (repeated (start_line ns) (length ns) [] p₀ ≡ Ok (vs, p)) × (number ≡ numbered ns vs)
-  values_done {i = i} {p = p} {vs = vs} so h = (repeat_done (start_line ns) (length ns) i vs p _ h so.on, so.is ∙ ap (λ l. numbered l vs) (take_all i ns h))

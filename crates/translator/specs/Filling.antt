@@ -1,21 +1,17 @@
 -- Records laid into a table, and what a description puts into each table. Assumes nothing.
-use Rattle.std.specs.Prelude.{ℕ, ◌+◌, Bool, cond, List, [], ◌∷◌, ◌++◌, map, length, drop, slice_set}
+use Rattle.std.specs.Prelude.{ℕ, ◌+◌, List, [], ◌∷◌, ◌++◌, map, length, drop, slice_set}
 use Rattle.sas.specs.declared.tables.Variable.{Variable}
 use Rattle.sas.specs.declared.tables.Operator.{Operator}
 use Rattle.sas.specs.declared.tables.Condition.{Condition}
 use Rattle.sas.specs.declared.tables.Reading.{Reading}
 use Rattle.sas.specs.States.{numbered}
 use Rattle.translator.specs.Description.{DescribedVariable, DescribedOperator, Description, sizes_in, conditions_in, all_conditions}
-use Rattle.translator.specs.Sections.{Room}
+use Rattle.translator.specs.declared.stores.Room.{Room}
 
--- the table with the records from place i on
+-- the table with the records from place i on; those past its end are left out
 abbrev pub put : {A : Type 0} → List A → ℕ → List A → List A
 put table i [] = table
 put table i (r ∷ rs) = put (slice_set table i r) (i + 1) rs
-
--- the same in the pass that writes; the pass that checks leaves the table as it is
-abbrev pub filled : {A : Type 0} → Bool → List A → ℕ → List A → List A
-filled write table i rs = cond write (put table i rs) table
 
 abbrev pub variable_record : DescribedVariable → Variable
 variable_record v = record { size = v.size }

@@ -8,6 +8,7 @@ use Rattle.sas.specs.declared.tables.Condition.{Condition}
 use Rattle.sas.specs.States.{spanned}
 use Rattle.translator.specs.declared.forms.Form.{Form}
 use Rattle.translator.specs.declared.forms.Form.TheVariants.{Mutex, Fact, Effect}
+use Rattle.translator.specs.declared.stores.Room.{Room}
 use Rattle.translator.specs.Lines.{Place, opening}
 use Rattle.translator.specs.Reads.{Read, and_then, refuse, refuse_if, fault_at, next_line, keyword, next_number, next_signed, line_end}
 use Rattle.translator.specs.Description.{Text, DescribedVariable, DescribedOperator, Description, sizes_in, all_conditions}
@@ -148,12 +149,6 @@ next_operator unit sizes room os p = and_then (operator_section unit sizes (room
 
 abbrev pub file_end : Place → Read (Unit {0})
 file_end p = cond (nat_lt p.next (length p.bytes)) (Err (fault_at BytesAfterEnd (p.line + 1))) (Ok (tt, p))
-
--- how many records of each table there are
-pub record Room : Type 0 where
-  pub variables : ℕ
-  pub operators : ℕ
-  pub conditions : ℕ
 
 abbrev pub variables_section : ℕ → Place → Read (List DescribedVariable)
 variables_section room p = and_then (number_line 1 (min room 60) BadNumber OverLimit p) (λ n q. repeated next_variable n [] q)

@@ -8,31 +8,24 @@ ghost use Rattle.translator.specs.Sections.{known_variable, fresh_variable, next
 use crate::cursor::Reader;
 use crate::fields::Bounds;
 use crate::forms::Form;
+use crate::sizes::Sizes;
 use crate::stores::store;
 use sas::Condition;
 use task::{Fault, Kind};
 
 impl<'a> Reader<'a> {
     // A variable of the file, by its number.
-    pub(crate) fn known_variable(&mut self, sizes: &[u32]) -> Result<u32, Fault>
-        requires { 1 ≤ length sizes.now }
-        ensures tells { Tells (λ v. v) (known_variable sizes.now (place_of self.old)) result (place_of self.new) }
-        ensures within { IfOk result (λ v. v < length sizes.now) }
+    pub(crate) fn known_variable(&mut self, sizes: &Sizes) -> Result<u32, Fault>
+        ensures tells { Tells (λ v. v) (known_variable sizes.now.all.items (place_of self.old)) result (place_of self.new) }
+        ensures within { IfOk result (λ v. v < length sizes.now.all.items) }
     {
-        self.number_within(Bounds {
-            low: 0,
-            high: sizes.len() - 1,
-            below: Kind::BadNumber,
-            above: Kind::BadNumber,
-        })
+        self.number_within(Bounds::up_to(sizes.all.len() - 1, Kind::BadNumber))
     }
 
     // One that has not been seen in this goal or operator.
-    pub(crate) fn fresh_variable(&mut self, sizes: &[u32], seen: &[bool]) -> Result<u32, Fault>
-        requires some { 1 ≤ length sizes.now }
-        requires seen { length sizes.now ≤ length seen.now }
-        ensures tells { Tells (λ v. v) (fresh_variable sizes.now seen.now (place_of self.old)) result (place_of self.new) }
-        ensures within { IfOk result (λ v. v < length sizes.now) }
+    pub(crate) fn fresh_variable(&mut self, sizes: &Sizes, seen: &[bool; 60]) -> Result<u32, Fault>
+        ensures tells { Tells (λ v. v) (fresh_variable sizes.now.all.items seen.now (place_of self.old)) result (place_of self.new) }
+        ensures within { IfOk result (λ v. v < length sizes.now.all.items) }
     {
         let variable = self.known_variable(sizes)?;
         if seen[variable as usize] {
@@ -45,12 +38,7 @@ impl<'a> Reader<'a> {
     pub(crate) fn next_value(&mut self, size: u32) -> Result<u32, Fault>
         ensures { Tells (λ v. v) (next_value size (place_of self.old)) result (place_of self.new) }
     {
-        self.number_within(Bounds {
-            low: 0,
-            high: size.saturating_sub(1) as usize,
-            below: Kind::BadNumber,
-            above: Kind::BadNumber,
-        })
+        self.number_within(Bounds::up_to(size.saturating_sub(1) as usize, Kind::BadNumber))
     }
 
     // A value of a variable of this size, or -1 for any.
@@ -68,15 +56,13 @@ impl<'a> Reader<'a> {
     }
 
     // A fact: a variable that has not been seen, and its value.
-    pub(crate) fn fact_line(&mut self, sizes: &[u32], seen: &[bool]) -> Result<Condition, Fault>
-        requires some { 1 ≤ length sizes.now }
-        requires seen { length sizes.now ≤ length seen.now }
-        ensures tells { Tells (λ v. v) (fact_line sizes.now seen.now (place_of self.old)) result (place_of self.new) }
-        ensures within { IfOk result (λ c. c.variable < length sizes.now) }
+    pub(crate) fn fact_line(&mut self, sizes: &Sizes, seen: &[bool; 60]) -> Result<Condition, Fault>
+        ensures tells { Tells (λ v. v) (fact_line sizes.now.all.items seen.now (place_of self.old)) result (place_of self.new) }
+        ensures within { IfOk result (λ c. c.variable < length sizes.now.all.items) }
     {
         self.next_line()?;
         let variable = self.fresh_variable(sizes, seen)?;
-        let value = self.next_value(sizes[variable as usize])?;
+        let value = self.next_value(sizes.all[variable as usize])?;
         self.line_end()?;
         Ok(Condition {
             variable,
@@ -86,21 +72,18 @@ impl<'a> Reader<'a> {
     }
 
     // An effect: a variable that has not been seen, its value before and its value after.
-    pub(crate) fn effect_line(&mut self, sizes: &[u32], seen: &[bool]) -> Result<Condition, Fault>
-        requires some { 1 ≤ length sizes.now }
-        requires seen { length sizes.now ≤ length seen.now }
-        ensures tells { Tells (λ v. v) (effect_line sizes.now seen.now (place_of self.old)) result (place_of self.new) }
-        ensures within { IfOk result (λ c. c.variable < length sizes.now) }
+    pub(crate) fn effect_line(
+        &mut self,
+        sizes: &Sizes,
+        seen: &[bool; 60],
+    ) -> Result<Condition, Fault>
+        ensures tells { Tells (λ v. v) (effect_line sizes.now.all.items seen.now (place_of self.old)) result (place_of self.new) }
+        ensures within { IfOk result (λ c. c.variable < length sizes.now.all.items) }
     {
         self.next_line()?;
-        self.number_within(Bounds {
-            low: 0,
-            high: 0,
-            below: Kind::NotCarried,
-            above: Kind::NotCarried,
-        })?;
+        self.number_within(Bounds::up_to(0, Kind::NotCarried))?;
         let variable = self.fresh_variable(sizes, seen)?;
-        let size = sizes[variable as usize];
+        let size = sizes.all[variable as usize];
         let before = self.next_before(size)?;
         let after = self.next_value(size)?;
         self.line_end()?;
@@ -112,15 +95,14 @@ impl<'a> Reader<'a> {
     }
 
     // A condition of this form; its variable has then been seen, but in a mutex group.
+    // A form is a value: a closure or a type for each line would need the form in its contract all the same.
     pub(crate) fn condition_line(
         &mut self,
         form: Form,
-        sizes: &[u32],
-        seen: &mut [bool],
+        sizes: &Sizes,
+        seen: &mut [bool; 60],
     ) -> Result<Condition, Fault>
-        requires some { 1 ≤ length sizes.now }
-        requires seen { length sizes.now ≤ length seen.old }
-        ensures { Tells (λ v. (v, seen.new)) (condition_line form sizes.now seen.old (place_of self.old)) result (place_of self.new) }
+        ensures { Tells (λ v. (v, seen.new)) (condition_line form sizes.now.all.items seen.old (place_of self.old)) result (place_of self.new) }
     {
         let condition = match form {
             Form::Mutex => return self.fact_line(sizes, seen),
@@ -131,26 +113,22 @@ impl<'a> Reader<'a> {
         Ok(condition)
     }
 
-    // So many conditions of this form: in the pass that writes their records stand from `first` on.
+    // So many conditions of this form: their records stand in the table from `first` on.
     pub(crate) fn conditions(
         &mut self,
         form: Form,
         count: u32,
-        sizes: &[u32],
-        seen: &mut [bool],
+        sizes: &Sizes,
+        seen: &mut [bool; 60],
         table: &mut [Condition],
         first: usize,
-        write: bool,
     ) -> Result<(), Fault>
-        requires some { 1 ≤ length sizes.now }
-        requires seen { length sizes.now ≤ length seen.old }
-        requires room { first + count < 2 ^ 64 }
-        ensures tells { Finds (λ s u. ConditionsFilled first count write table.old seen.new table.new s) (repeated (next_condition form sizes.now) count ([], seen.old) (place_of self.old)) result (place_of self.new) }
-        ensures same { write ≡ false → table.new ≡ table.old }
+        requires { first + count < 2 ^ 64 }
+        ensures { Finds (λ s u. ConditionsFilled first count table.old seen.new table.new s) (repeated (next_condition form sizes.now.all.items) count ([], seen.old) (place_of self.old)) result (place_of self.new) }
     {
         for at in 0..count {
             let condition = self.condition_line(form, sizes, seen)?;
-            store(table, first + at as usize, condition, write);
+            store(table, first + at as usize, condition);
         }
         Ok(())
     }
@@ -160,26 +138,17 @@ impl<'a> Reader<'a> {
         &mut self,
         form: Form,
         room: usize,
-        sizes: &[u32],
-        seen: &mut [bool],
+        sizes: &Sizes,
+        seen: &mut [bool; 60],
         table: &mut [Condition],
         first: usize,
-        write: bool,
     ) -> Result<usize, Fault>
-        requires some { 1 ≤ length sizes.now }
-        requires seen { length sizes.now ≤ length seen.old }
-        requires room { first + room < 2 ^ 64 }
-        ensures tells { Finds (λ s n. ConditionsFilled first n write table.old seen.new table.new s) (conditions_section form sizes.now room seen.old (place_of self.old)) result (place_of self.new) }
+        requires { first + room < 2 ^ 64 }
+        ensures tells { Finds (λ s n. ConditionsFilled first n table.old seen.new table.new s) (conditions_section form sizes.now.all.items room seen.old (place_of self.old)) result (place_of self.new) }
         ensures within { IfOk result (λ n. n ≤ room) }
-        ensures same { write ≡ false → table.new ≡ table.old }
     {
-        let count = self.number_line(Bounds {
-            low: 0,
-            high: room,
-            below: Kind::OverLimit,
-            above: Kind::OverLimit,
-        })?;
-        self.conditions(form, count, sizes, seen, table, first, write)?;
+        let count = self.number_line(Bounds::up_to(room, Kind::OverLimit))?;
+        self.conditions(form, count, sizes, seen, table, first)?;
         Ok(count as usize)
     }
 }

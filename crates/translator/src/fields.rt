@@ -17,6 +17,23 @@ pub(crate) struct Bounds {
     pub(crate) above: Kind,
 }
 
+impl Bounds {
+    // From 0 up to this number.
+    pub(crate) fn up_to(high: usize, above: Kind) -> Bounds
+        ensures low { result.low ≡ 0 }
+        ensures high { result.high ≡ high }
+        ensures below { result.below ≡ above }
+        ensures above { result.above ≡ above }
+    {
+        Bounds {
+            low: 0,
+            high,
+            below: above,
+            above,
+        }
+    }
+}
+
 impl<'a> Reader<'a> {
     // The next number of the line in hand, which must be within the bounds.
     pub(crate) fn number_within(&mut self, bounds: Bounds) -> Result<u32, Fault>
@@ -71,12 +88,7 @@ impl<'a> Reader<'a> {
         ensures { Tells (λ v. v) (metric_section (place_of self.old)) result (place_of self.new) }
     {
         self.keyword(b"begin_metric")?;
-        let metric = self.number_line(Bounds {
-            low: 0,
-            high: 1,
-            below: Kind::BadNumber,
-            above: Kind::BadNumber,
-        })?;
+        let metric = self.number_line(Bounds::up_to(1, Kind::BadNumber))?;
         self.keyword(b"end_metric")?;
         Ok(metric == 0)
     }

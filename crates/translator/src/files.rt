@@ -1,98 +1,81 @@
-// A whole file, read in two passes: one that checks it, and one that fills the tables.
-ghost use Rattle.std.specs.Prelude.{◌≡◌, ◌≤◌, false, length, IfOk};
+// A whole file, read in two passes: one that checks it over empty tables, and one that fills the caller's.
+ghost use Rattle.std.specs.Prelude.{◌≡◌, ◌≤◌, length, IfOk};
 ghost use Rattle.translator.specs.Filled.{VariablesFilled, RestFilled, FileFilled};
 ghost use Rattle.translator.specs.Reads.{Finds};
 ghost use Rattle.translator.specs.Readers.{place_of};
 ghost use Rattle.translator.specs.Sections.{variables_section, rest_of_file, whole_file};
-ghost use Rattle.translator.specs.Filling.{room_in};
 ghost use Rattle.translator.specs.Lines.{opening};
 ghost use Rattle.translator.specs.Taken.{Taken};
 
 use crate::cursor::Reader;
 use crate::fields::Bounds;
+use crate::sizes::Sizes;
+use crate::stores::Room;
 use sas::{Condition, Operator, Reading, Variable};
 use task::{Fault, Kind, Layer};
 
 impl<'a> Reader<'a> {
-    // Their number, and then the variables.
-    pub(crate) fn variables(
-        &mut self,
-        sizes: &mut [u32],
-        table: &mut [Variable],
-        write: bool,
-    ) -> Result<u32, Fault>
-        requires { length sizes.old ≡ 60 }
-        ensures tells { Finds (λ vs n. VariablesFilled n write table.old sizes.new table.new vs) (variables_section (length table.old) (place_of self.old)) result (place_of self.new) }
-        ensures within { IfOk result (λ n. (1 ≤ n) × (n ≤ 60) × (n ≤ length table.old)) }
-        ensures same { write ≡ false → table.new ≡ table.old }
+    // Their number, which is at most `room`, and then the variables: their sizes.
+    pub(crate) fn variables(&mut self, room: usize, table: &mut [Variable]) -> Result<Sizes, Fault>
+        ensures tells { Finds (λ vs n. VariablesFilled table.old n.all.items table.new vs) (variables_section room (place_of self.old)) result (place_of self.new) }
+        ensures within { IfOk result (λ n. length n.all.items ≤ room) }
     {
         let count = self.number_line(Bounds {
             low: 1,
-            high: table.len().min(60),
+            high: room.min(60),
             below: Kind::BadNumber,
             above: Kind::OverLimit,
         })?;
-        self.variable_list(count, sizes, table, write)?;
-        Ok(count)
+        self.variable_list(count, table)
     }
 
     // What stands behind the start state: how many operators there are, how many conditions are in use,
     // and how many of them are the goal's.
     pub(crate) fn rest(
         &mut self,
+        room: Room,
         unit: bool,
-        sizes: &[u32],
+        sizes: &Sizes,
         operators: &mut [Operator],
         conditions: &mut [Condition],
-        write: bool,
     ) -> Result<(u32, usize, usize), Fault>
-        requires some { 1 ≤ length sizes.now }
-        requires few { length sizes.now ≤ 60 }
-        ensures tells { Finds (λ s n. RestFilled n.0 n.1 n.2 write operators.old operators.new conditions.old conditions.new s) (rest_of_file (record { variables = 0; operators = length operators.old; conditions = length conditions.old }) unit sizes.now (place_of self.old)) result (place_of self.new) }
-        ensures same { write ≡ false → operators.new ≡ operators.old }
-        ensures conditions_same { write ≡ false → conditions.new ≡ conditions.old }
+        ensures { Finds (λ s n. RestFilled room n.0 n.1 n.2 operators.old operators.new conditions.old conditions.new s) (rest_of_file room unit sizes.now.all.items (place_of self.old)) result (place_of self.new) }
     {
-        let goal = self.goal(sizes, conditions, write)?;
-        let count = self.number_line(Bounds {
-            low: 0,
-            high: operators.len().min(4096),
-            below: Kind::OverLimit,
-            above: Kind::OverLimit,
-        })?;
-        let used = self.operator_list(count, unit, sizes, operators, conditions, goal, write)?;
-        self.number_line(Bounds {
-            low: 0,
-            high: 0,
-            below: Kind::NotCarried,
-            above: Kind::NotCarried,
-        })?;
+        let goal = self.goal(room.conditions, sizes, conditions)?;
+        let count = self.number_line(Bounds::up_to(room.operators.min(4096), Kind::OverLimit))?;
+        let used = self.operator_list(
+            room.conditions,
+            count,
+            unit,
+            sizes,
+            operators,
+            conditions,
+            goal,
+        )?;
+        self.number_line(Bounds::up_to(0, Kind::NotCarried))?;
         self.file_end()?;
         Ok((count, used, goal))
     }
 
-    // The whole file: how much of the tables it takes. In the pass that writes its records stand there.
+    // The whole file, if it is within the room: how much of it the file takes. Its records stand in the tables,
+    // as far as these go.
     pub(crate) fn file(
         &mut self,
+        room: Room,
         variables: &mut [Variable],
         operators: &mut [Operator],
         conditions: &mut [Condition],
-        write: bool,
     ) -> Result<Reading, Fault>
-        ensures tells { Finds (λ d u. FileFilled write variables.old variables.new operators.old operators.new conditions.old conditions.new u d) (whole_file (room_in variables.old operators.old conditions.old) (place_of self.old)) result (place_of self.new) }
-        ensures variables_same { write ≡ false → variables.new ≡ variables.old }
-        ensures operators_same { write ≡ false → operators.new ≡ operators.old }
-        ensures conditions_same { write ≡ false → conditions.new ≡ conditions.old }
+        ensures { Finds (λ d u. FileFilled room variables.old variables.new operators.old operators.new conditions.old conditions.new u d) (whole_file room (place_of self.old)) result (place_of self.new) }
     {
-        let mut room = [0; 60];
         self.version()?;
         let unit_cost = self.metric()?;
-        let count = self.variables(&mut room, variables, write)?;
-        let sizes = &room[0..count as usize];
-        self.mutexes(sizes)?;
-        let start = self.state(sizes)?;
-        let (actions, used, goal) = self.rest(unit_cost, sizes, operators, conditions, write)?;
+        let sizes = self.variables(room.variables, variables)?;
+        self.mutexes(&sizes)?;
+        let start = self.state(&sizes)?;
+        let (actions, used, goal) = self.rest(room, unit_cost, &sizes, operators, conditions)?;
         Ok(Reading {
-            variables: count,
+            variables: sizes.all.len() as u32,
             operators: actions,
             conditions: used,
             goal,
@@ -130,8 +113,13 @@ pub fn read(
     if bytes.len() > 65_536 {
         return Err(Layer::Reading.fault(Kind::OverLimit, 0));
     }
+    let room = Room {
+        variables: variables.len(),
+        operators: operators.len(),
+        conditions: conditions.len(),
+    };
     let mut checking = Reader::new(bytes);
-    checking.file(variables, operators, conditions, false)?;
+    checking.file(room, &mut [], &mut [], &mut [])?;
     let mut filling = Reader::new(bytes);
-    filling.file(variables, operators, conditions, true)
+    filling.file(room, variables, operators, conditions)
 }

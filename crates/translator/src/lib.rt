@@ -9,6 +9,7 @@ mod forms;
 mod lines;
 mod numerals;
 mod sections;
+mod sizes;
 mod stores;
 mod variables;
 

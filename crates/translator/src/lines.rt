@@ -1,27 +1,20 @@
 // Lines, their parts and their numbers.
-ghost use Rattle.std.specs.Prelude.{◌≡◌, ◌+◌, ◌<◌, ◌≤◌, length, drop, IfSome, IfOk};
+ghost use Rattle.std.specs.Prelude.{◌≡◌, ◌<◌, ◌≤◌, length, IfSome, IfOk};
 ghost use Rattle.translator.specs.Lines.{line_length, cut, cut_at};
 ghost use Rattle.translator.specs.Reads.{Tells, next_line, next_part, next_number, next_signed, first_number, line_end, fault_at};
 ghost use Rattle.translator.specs.Reads.{keyword};
 ghost use Rattle.translator.specs.Readers.{place_of};
 
 use crate::cursor::Reader;
-use crate::numerals::{numeral, same_bytes, signed};
+use crate::numerals::{numeral, signed};
 use task::{Fault, Kind, Layer};
 
-// How many bytes from `from` on stand before the first newline, if there is one.
-fn newline(bytes: &[u8], from: usize) -> Option<usize>
-    ensures value { result ≡ line_length (drop from bytes.now) }
-    ensures within { IfSome result (λ n. from + n < length bytes.now) }
+// How many bytes stand before the first newline, if there is one.
+fn newline(bytes: &[u8]) -> Option<usize>
+    ensures value { result ≡ line_length bytes.now }
+    ensures within { IfSome result (λ n. n < length bytes.now) }
 {
-    let mut at = from;
-    while at < bytes.len() {
-        if bytes[at] == b'\n' {
-            return Some(at - from);
-        }
-        at += 1;
-    }
-    None
+    bytes.iter().position(|byte| *byte == b'\n')
 }
 
 // How many bytes of the line stand before its first space; all where it has none.
@@ -29,14 +22,9 @@ fn space(line: &[u8]) -> usize
     ensures value { cut line.now ≡ cut_at line.now result }
     ensures within { result ≤ length line.now }
 {
-    let mut at = 0;
-    while at < line.len() {
-        if line[at] == b' ' {
-            return at;
-        }
-        at += 1;
-    }
-    at
+    line.iter()
+        .position(|byte| *byte == b' ')
+        .unwrap_or(line.len())
 }
 
 impl<'a> Reader<'a> {
@@ -54,7 +42,7 @@ impl<'a> Reader<'a> {
     {
         let bytes = self.bytes;
         let start = self.next;
-        let Some(count) = newline(bytes, start) else {
+        let Some(count) = newline(&bytes[start..]) else {
             return Err(Layer::Reading.fault(Kind::EndsEarly, self.line + 1));
         };
         self.place = start;
@@ -68,7 +56,7 @@ impl<'a> Reader<'a> {
         ensures { Tells (λ v. tt) (keyword word.now (place_of self.old)) result (place_of self.new) }
     {
         let line = self.next_line()?;
-        if same_bytes(line, word) {
+        if line == word {
             Ok(())
         } else {
             Err(self.fault(Kind::WrongWord))
@@ -95,10 +83,7 @@ impl<'a> Reader<'a> {
         ensures { Tells (λ v. v) (next_number (place_of self.old)) result (place_of self.new) }
     {
         let part = self.next_part()?;
-        match numeral(part) {
-            Some(value) => Ok(value),
-            None => Err(self.fault(Kind::BadNumber)),
-        }
+        numeral(part).ok_or(self.fault(Kind::BadNumber))
     }
 
     // The next number of the line in hand, where -1 may stand.
@@ -106,10 +91,7 @@ impl<'a> Reader<'a> {
         ensures { Tells (λ v. v) (next_signed (place_of self.old)) result (place_of self.new) }
     {
         let part = self.next_part()?;
-        match signed(part) {
-            Some(value) => Ok(value),
-            None => Err(self.fault(Kind::BadNumber)),
-        }
+        signed(part).ok_or(self.fault(Kind::BadNumber))
     }
 
     // The first number of the next line.

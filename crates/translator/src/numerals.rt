@@ -1,39 +1,21 @@
 // Numbers as a file writes them.
 ghost use Rattle.std.specs.Prelude.{◌≡◌};
-ghost use Rattle.translator.specs.Numerals.{number_in, value_within, Decimal, same, signed_in};
-
-// Whether two byte strings are equal.
-pub(crate) fn same_bytes(a: &[u8], b: &[u8]) -> bool
-    ensures { result ≡ same a.now b.now }
-{
-    if a.len() != b.len() {
-        return false;
-    }
-    let mut at = 0;
-    while at < a.len() {
-        if a[at] != b[at] {
-            return false;
-        }
-        at += 1;
-    }
-    true
-}
+ghost use Rattle.translator.specs.Numerals.{number_in, value_within, Decimal, signed_in};
 
 // The number that the digits write, if they are digits and it is within the limit.
 fn digits_value(digits: &[u8]) -> Option<u32>
     ensures { result ≡ value_within 0 digits.now }
 {
-    let mut value: u64 = 0;
+    let mut value: u32 = 0;
     for digit in digits {
-        if *digit < b'0' || *digit > b'9' {
+        if !digit.is_ascii_digit() {
             return None;
         }
-        value = value * 10 + u64::from(*digit - b'0');
-        if value > 4_294_967_295 {
-            return None;
-        }
+        value = value
+            .checked_mul(10)?
+            .checked_add(u32::from(*digit - b'0'))?;
     }
-    Some(value as u32)
+    Some(value)
 }
 
 // The number that the bytes write: decimal digits without needless zeros, up to 4,294,967,295.
@@ -54,11 +36,8 @@ pub fn numeral(digits: &[u8]) -> Option<u32>
 pub(crate) fn signed(digits: &[u8]) -> Option<i64>
     ensures { result ≡ signed_in digits.now }
 {
-    if same_bytes(digits, b"-1") {
+    if digits == b"-1".as_slice() {
         return Some(-1);
     }
-    match numeral(digits) {
-        Some(value) => Some(i64::from(value)),
-        None => None,
-    }
+    numeral(digits).map(i64::from)
 }

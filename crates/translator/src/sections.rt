@@ -8,6 +8,7 @@ ghost use Rattle.translator.specs.Sections.{repeated, mutex_section, next_mutex,
 use crate::cursor::Reader;
 use crate::fields::Bounds;
 use crate::forms::Form;
+use crate::sizes::Sizes;
 use crate::stores::store;
 use sas::{Condition, Operator};
 use task::{Fault, Kind};
@@ -17,31 +18,18 @@ const UNLIMITED: usize = 4_294_967_295;
 
 impl<'a> Reader<'a> {
     // A mutex group, which is checked and kept nowhere.
-    pub(crate) fn mutex_group(&mut self, sizes: &[u32]) -> Result<(), Fault>
-        requires some { 1 ≤ length sizes.now }
-        requires few { length sizes.now ≤ 60 }
-        ensures { Finds (λ g u. Unit {0}) (mutex_section sizes.now (place_of self.old)) result (place_of self.new) }
+    pub(crate) fn mutex_group(&mut self, sizes: &Sizes) -> Result<(), Fault>
+        ensures { Finds (λ g u. Unit {0}) (mutex_section sizes.now.all.items (place_of self.old)) result (place_of self.new) }
     {
         let mut seen = [false; 60];
-        let mut none: [Condition; 0] = [];
         self.keyword(b"begin_mutex_group")?;
-        self.condition_section(
-            Form::Mutex,
-            UNLIMITED,
-            sizes,
-            &mut seen,
-            &mut none,
-            0,
-            false,
-        )?;
+        self.condition_section(Form::Mutex, UNLIMITED, sizes, &mut seen, &mut [], 0)?;
         self.keyword(b"end_mutex_group")
     }
 
     // So many mutex groups.
-    pub(crate) fn mutex_list(&mut self, count: u32, sizes: &[u32]) -> Result<(), Fault>
-        requires some { 1 ≤ length sizes.now }
-        requires few { length sizes.now ≤ 60 }
-        ensures { Finds (λ gs u. Unit {0}) (repeated (next_mutex sizes.now) count [] (place_of self.old)) result (place_of self.new) }
+    pub(crate) fn mutex_list(&mut self, count: u32, sizes: &Sizes) -> Result<(), Fault>
+        ensures { Finds (λ gs u. Unit {0}) (repeated (next_mutex sizes.now.all.items) count [] (place_of self.old)) result (place_of self.new) }
     {
         for _at in 0..count {
             self.mutex_group(sizes)?;
@@ -50,37 +38,26 @@ impl<'a> Reader<'a> {
     }
 
     // Their number, and then the mutex groups.
-    pub(crate) fn mutexes(&mut self, sizes: &[u32]) -> Result<(), Fault>
-        requires some { 1 ≤ length sizes.now }
-        requires few { length sizes.now ≤ 60 }
-        ensures { Finds (λ gs u. Unit {0}) (mutexes_section sizes.now (place_of self.old)) result (place_of self.new) }
+    pub(crate) fn mutexes(&mut self, sizes: &Sizes) -> Result<(), Fault>
+        ensures { Finds (λ gs u. Unit {0}) (mutexes_section sizes.now.all.items (place_of self.old)) result (place_of self.new) }
     {
-        let count = self.number_line(Bounds {
-            low: 0,
-            high: UNLIMITED,
-            below: Kind::OverLimit,
-            above: Kind::OverLimit,
-        })?;
+        let count = self.number_line(Bounds::up_to(UNLIMITED, Kind::OverLimit))?;
         self.mutex_list(count, sizes)
     }
 
-    // The goal: how many conditions it has. In the pass that writes their records stand first.
+    // The goal, of at most `room` conditions: how many it has. Their records stand first in the table.
     pub(crate) fn goal(
         &mut self,
-        sizes: &[u32],
+        room: usize,
+        sizes: &Sizes,
         table: &mut [Condition],
-        write: bool,
     ) -> Result<usize, Fault>
-        requires some { 1 ≤ length sizes.now }
-        requires few { length sizes.now ≤ 60 }
-        ensures tells { Finds (λ cs n. GoalFilled n write table.old table.new cs) (goal_section sizes.now (length table.old) (place_of self.old)) result (place_of self.new) }
-        ensures within { IfOk result (λ n. n ≤ length table.old) }
-        ensures same { write ≡ false → table.new ≡ table.old }
+        ensures tells { Finds (λ cs n. GoalFilled n table.old table.new cs) (goal_section sizes.now.all.items room (place_of self.old)) result (place_of self.new) }
+        ensures within { IfOk result (λ n. n ≤ room) }
     {
         let mut seen = [false; 60];
-        let room = table.len();
         self.keyword(b"begin_goal")?;
-        let count = self.condition_section(Form::Fact, room, sizes, &mut seen, table, 0, write)?;
+        let count = self.condition_section(Form::Fact, room, sizes, &mut seen, table, 0)?;
         self.keyword(b"end_goal")?;
         Ok(count)
     }
@@ -106,43 +83,31 @@ impl<'a> Reader<'a> {
         })
     }
 
-    // An operator, whose conditions begin at `first`. In the pass that writes their records stand there.
+    // An operator, whose conditions stand in the table from `first` on, and before `room`.
     pub(crate) fn operator(
         &mut self,
+        room: usize,
         unit: bool,
-        sizes: &[u32],
+        sizes: &Sizes,
         table: &mut [Condition],
         first: usize,
-        write: bool,
     ) -> Result<Operator, Fault>
-        requires some { 1 ≤ length sizes.now }
-        requires few { length sizes.now ≤ 60 }
-        requires room { first ≤ length table.old }
-        ensures tells { Finds (λ o v. OperatorFilled first write table.old table.new v o) (operator_section unit sizes.now (length table.old - first) (place_of self.old)) result (place_of self.new) }
-        ensures within { IfOk result (λ v. first + v.count ≤ length table.old) }
-        ensures same { write ≡ false → table.new ≡ table.old }
+        requires { first ≤ room }
+        ensures tells { Finds (λ o v. OperatorFilled first table.old table.new v o) (operator_section unit sizes.now.all.items (room - first) (place_of self.old)) result (place_of self.new) }
+        ensures within { IfOk result (λ v. first + v.count ≤ room) }
     {
         let mut seen = [false; 60];
-        let room = table.len() - first;
+        let left = room - first;
         self.keyword(b"begin_operator")?;
         let (name, name_length) = self.text_line()?;
-        let prevail = self.condition_section(
-            Form::Fact,
-            room,
-            sizes,
-            &mut seen,
-            table,
-            first,
-            write,
-        )?;
+        let prevail = self.condition_section(Form::Fact, left, sizes, &mut seen, table, first)?;
         let effects = self.condition_section(
             Form::Effect,
-            room - prevail,
+            left - prevail,
             sizes,
             &mut seen,
             table,
             first + prevail,
-            write,
         )?;
         let cost = self.cost(unit)?;
         self.keyword(b"end_operator")?;
@@ -155,29 +120,25 @@ impl<'a> Reader<'a> {
         })
     }
 
-    // So many operators, whose conditions begin at `first`: where those of the last one end.
+    // So many operators, whose conditions stand from `first` on, and before `room`: where those of the last end.
     pub(crate) fn operator_list(
         &mut self,
+        room: usize,
         count: u32,
         unit: bool,
-        sizes: &[u32],
+        sizes: &Sizes,
         operators: &mut [Operator],
         table: &mut [Condition],
         first: usize,
-        write: bool,
     ) -> Result<usize, Fault>
-        requires some { 1 ≤ length sizes.now }
-        requires few { length sizes.now ≤ 60 }
-        requires room { first ≤ length table.old }
-        ensures tells { Finds (λ os n. OperatorsFilled count first write operators.old operators.new table.old table.new n os) (repeated (next_operator unit sizes.now (length table.old - first)) count [] (place_of self.old)) result (place_of self.new) }
-        ensures same { write ≡ false → operators.new ≡ operators.old }
-        ensures table_same { write ≡ false → table.new ≡ table.old }
+        requires { first ≤ room }
+        ensures { Finds (λ os n. OperatorsFilled count first room operators.old operators.new table.old table.new n os) (repeated (next_operator unit sizes.now.all.items (room - first)) count [] (place_of self.old)) result (place_of self.new) }
     {
         let mut used = first;
         for at in 0..count {
-            let operator = self.operator(unit, sizes, table, used, write)?;
+            let operator = self.operator(room, unit, sizes, table, used)?;
             used += operator.count;
-            store(operators, at as usize, operator, write);
+            store(operators, at as usize, operator);
         }
         Ok(used)
     }

@@ -1,11 +1,21 @@
-// Writing into a lent table.
-ghost use Rattle.std.specs.Prelude.{◌≡◌, if◌then◌else◌, slice_set};
+// The lent tables: how many records they have, and writing into one.
+ghost use Rattle.std.specs.Prelude.{◌≡◌, slice_set};
 
-// Puts the record in its place in the pass that writes; a place past the table's end stays unwritten.
-pub(crate) fn store<T: Copy>(table: &mut [T], at: usize, record: T, write: bool)
-    ensures { table.new ≡ (if write then slice_set table.old at «record» else table.old) }
+// How many records the caller's tables have.
+#[derive(Clone, Copy)]
+pub(crate) struct Room {
+    pub(crate) variables: usize,
+    pub(crate) operators: usize,
+    pub(crate) conditions: usize,
+}
+
+// Puts the value in its place; a place past the table's end stays unwritten.
+// The table and the place go apart: a struct that holds the lent table would have to promise in each contract
+// that it lends the same memory still.
+pub(crate) fn store<T: Copy>(table: &mut [T], at: usize, value: T)
+    ensures { table.new ≡ slice_set table.old at value }
 {
-    if write && at < table.len() {
-        table[at] = record;
+    if at < table.len() {
+        table[at] = value;
     }
 }

@@ -1,15 +1,16 @@
 // The variables of a file, and the values that they have at the start.
-ghost use Rattle.std.specs.Prelude.{◌≡◌, ◌≤◌, false, [], length, IfOk};
+ghost use Rattle.std.specs.Prelude.{◌≡◌, ◌≤◌, [], length, IfOk};
 ghost use Rattle.translator.specs.Filled.{VariablesFilled};
 ghost use Rattle.sas.specs.States.{numbered};
-ghost use Rattle.translator.specs.Sound.{SoundSizes};
 ghost use Rattle.translator.specs.Reads.{Tells, Finds};
 ghost use Rattle.translator.specs.Readers.{place_of};
 ghost use Rattle.translator.specs.Sections.{repeated, variable_section, next_variable, most_values, start_line, state_section};
 
 use crate::cursor::Reader;
 use crate::fields::Bounds;
+use crate::sizes::Sizes;
 use crate::stores::store;
+use arrayvec::ArrayVec;
 use sas::Variable;
 use task::{Fault, Kind};
 
@@ -38,53 +39,46 @@ impl<'a> Reader<'a> {
         Ok(size)
     }
 
-    // So many variables: their sizes at the front of `sizes`, and in the pass that writes their records.
+    // So many variables: their sizes. Their records stand first in the table.
     pub(crate) fn variable_list(
         &mut self,
         count: u32,
-        sizes: &mut [u32],
         table: &mut [Variable],
-        write: bool,
-    ) -> Result<(), Fault>
-        requires { count ≤ length sizes.old }
-        ensures tells { Finds (λ vs u. VariablesFilled count write table.old sizes.new table.new vs) (repeated next_variable count [] (place_of self.old)) result (place_of self.new) }
-        ensures same { write ≡ false → table.new ≡ table.old }
+    ) -> Result<Sizes, Fault>
+        requires some { 1 ≤ count }
+        requires few { count ≤ 60 }
+        ensures tells { Finds (λ vs n. VariablesFilled table.old n.all.items table.new vs) (repeated next_variable count [] (place_of self.old)) result (place_of self.new) }
+        ensures long { IfOk result (λ n. length n.all.items ≡ count) }
     {
+        let mut all = ArrayVec::new();
         let mut span: u64 = 1;
         for at in 0..count {
             let size = self.variable(span)?;
-            sizes[at as usize] = size;
-            store(table, at as usize, Variable { size }, write);
+            all.push(size);
+            store(table, at as usize, Variable { size });
             span *= u64::from(size);
         }
-        Ok(())
+        Ok(Sizes { all })
     }
 
     // A value for each variable: the number of the state that has them.
-    pub(crate) fn start_values(&mut self, sizes: &[u32]) -> Result<u64, Fault>
-        requires { SoundSizes sizes.now }
-        ensures { Finds (λ vs n. n ≡ numbered sizes.now vs) (repeated (start_line sizes.now) (length sizes.now) [] (place_of self.old)) result (place_of self.new) }
+    pub(crate) fn start_values(&mut self, sizes: &Sizes) -> Result<u64, Fault>
+        ensures { Finds (λ vs n. n ≡ numbered sizes.now.all.items vs) (repeated (start_line sizes.now.all.items) (length sizes.now.all.items) [] (place_of self.old)) result (place_of self.new) }
     {
+        let all = sizes.all.as_slice();
         let mut number: u64 = 0;
         let mut weight: u64 = 1;
-        for at in 0..sizes.len() {
-            let size = sizes[at];
-            let value = self.number_line(Bounds {
-                low: 0,
-                high: size.saturating_sub(1) as usize,
-                below: Kind::BadNumber,
-                above: Kind::BadNumber,
-            })?;
+        for size in all {
+            let value = self.number_line(Bounds::up_to((*size - 1) as usize, Kind::BadNumber))?;
             number += weight * u64::from(value);
-            weight *= u64::from(size);
+            weight *= u64::from(*size);
         }
         Ok(number)
     }
 
     // The start state: its number.
-    pub(crate) fn state(&mut self, sizes: &[u32]) -> Result<u64, Fault>
-        requires { SoundSizes sizes.now }
-        ensures { Finds (λ vs n. n ≡ numbered sizes.now vs) (state_section sizes.now (place_of self.old)) result (place_of self.new) }
+    pub(crate) fn state(&mut self, sizes: &Sizes) -> Result<u64, Fault>
+        ensures { Finds (λ vs n. n ≡ numbered sizes.now.all.items vs) (state_section sizes.now.all.items (place_of self.old)) result (place_of self.new) }
     {
         self.keyword(b"begin_state")?;
         let number = self.start_values(sizes)?;

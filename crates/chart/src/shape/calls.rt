@@ -1,13 +1,13 @@
 // The chart made from tables, and its calls.
-ghost use Rattle.std.specs.Prelude.{◌≡◌, ◌<◌, true, length, IfOk};
-ghost use Rattle.chart.specs.Faults.{end_fits};
+ghost use Rattle.std.specs.Prelude.{◌≡◌, ◌<◌, true, length, IfOk, IfSome, option_map};
+ghost use Rattle.chart.specs.Faults.{chart_fault, end_fits};
 ghost use Rattle.chart.specs.Makes.{task_lawful, task_nameless};
 ghost use Rattle.chart.specs.Meaning.{Checked, FirstOut, Made, task_meaning, task_names};
 ghost use Rattle.chart.specs.Tables.{contents, name_of};
 
 use super::Chart;
-use crate::checks::{check_records, check_tables, cost_at, estimate_at, name_start_of};
-use crate::index::{index_of, next_arc};
+use crate::checks::{FitTables, cost_at, estimate_at, name_start_of};
+use crate::index::IndexedTables;
 use crate::tables::{Arc, ChartTables};
 use std::alloc::{AllocError, Global};
 use task::{Fault, NamedTask, Task};
@@ -17,42 +17,39 @@ impl<'a> Chart<'a> {
     pub fn check(heap: Global, tables: ChartTables) -> Result<(), Fault>
         ensures { Checked (contents tables.entry) result }
     {
-        check_tables(tables)?;
-        let index = index_of(heap, tables.arcs)?;
-        check_records(tables, index.as_slice())
+        let fit = FitTables::checked(tables)?;
+        IndexedTables::of(heap, fit)?.check_records()
     }
 
     // The task that the tables hold; the empty task where they have a fault. Refuses only for want of memory.
     pub fn new(heap: Global, tables: ChartTables<'a>) -> Result<Chart<'a>, AllocError>
         ensures { IfOk result (λ c. Made (contents tables.entry) c) }
     {
-        if check_tables(tables).is_err() {
-            return Ok(Chart {
-                tables,
-                index: Vec::new(heap),
-                made: false,
-            });
-        }
-        let index = index_of(heap, tables.arcs)?;
-        let made = check_records(tables, index.as_slice()).is_ok();
+        let Ok(fit) = FitTables::checked(tables) else {
+            return Ok(Chart { held: None });
+        };
+        let indexed = IndexedTables::of(heap, fit)?;
+        let passed = indexed.check_records().is_ok();
         Ok(Chart {
-            tables,
-            index,
-            made,
+            held: passed.then_some(indexed),
         })
+    }
+
+    // The tables, where they are held.
+    fn tables(&self) -> Option<ChartTables<'a>>
+        ensures held { result ≡ option_map (λ t. t.fit.tables) self.now.held }
+        ensures faultless { IfSome result (λ t. chart_fault (contents t) ≡ None) }
+    {
+        self.held.as_ref().map(|held| held.fit.tables)
     }
 
     // Of the arcs of the state, that of the least operator numbered `from` or more.
     fn next_out(&self, state: u64, from: u32) -> Option<Arc>
         ensures { FirstOut ((task_meaning self.now).move state) from result }
     {
-        if !self.made || state >= self.tables.goals.len() as u64 {
-            return None;
-        }
-        match next_arc(self.tables.arcs, self.index.as_slice(), state as u32, from) {
-            Some(arc) => Some(self.tables.arcs[arc]),
-            None => None,
-        }
+        let held = self.held.as_ref()?;
+        let arc = held.next_arc(u32::try_from(state).ok()?, from)?;
+        Some(held.fit.tables.arcs[arc])
     }
 }
 
@@ -72,73 +69,40 @@ impl Task for Chart<'_> {
     ghost lawful = { task_lawful };
 
     fn operators(&self) -> u32 {
-        if self.made {
-            self.tables.costs.len() as u32
-        } else {
-            0
-        }
+        self.tables().map_or(0, |tables| tables.costs.len() as u32)
     }
 
     fn cost(&self, operator: u32) -> u32 {
-        if self.made {
-            cost_at(self.tables.costs, operator)
-        } else {
-            0
-        }
+        self.tables()
+            .map_or(0, |tables| cost_at(tables.costs, operator))
     }
 
     fn span(&self) -> u64 {
-        if self.made {
-            self.tables.goals.len() as u64
-        } else {
-            1
-        }
+        self.tables().map_or(1, |tables| tables.goals.len() as u64)
     }
 
     fn start(&self) -> u64 {
-        if self.made {
-            self.tables.start as u64
-        } else {
-            0
-        }
+        self.tables().map_or(0, |tables| u64::from(tables.start))
     }
 
     fn is_goal(&self, state: u64) -> bool {
-        if self.made && state < self.tables.goals.len() as u64 {
-            self.tables.goals[state as usize]
-        } else {
-            false
-        }
+        self.tables().is_some_and(|tables| {
+            tables.goals.get(state as usize).copied().unwrap_or(false)
+        })
     }
 
     fn estimate(&self, state: u64) -> Option<u64> {
-        if !self.made {
-            return None;
-        }
-        match estimate_at(self.tables.estimates, state as usize) {
-            Some(estimate) => Some(estimate as u64),
-            None => None,
-        }
+        estimate_at(self.tables()?.estimates, state as usize).map(u64::from)
     }
 
     fn step(&self, state: u64, operator: u32) -> Option<u64> {
-        match self.next_out(state, operator) {
-            Some(arc) => {
-                if arc.operator == operator {
-                    Some(arc.to as u64)
-                } else {
-                    None
-                }
-            }
-            None => None,
-        }
+        let arc = self.next_out(state, operator)?;
+        (arc.operator == operator).then_some(u64::from(arc.to))
     }
 
     fn next_move(&self, state: u64, from: u32) -> Option<(u32, u64)> {
-        match self.next_out(state, from) {
-            Some(arc) => Some((arc.operator, arc.to as u64)),
-            None => None,
-        }
+        self.next_out(state, from)
+            .map(|arc| (arc.operator, u64::from(arc.to)))
     }
 }
 
@@ -148,8 +112,12 @@ impl NamedTask for Chart<'_> {
     ghost nameless = { task_nameless };
 
     fn name(&self, operator: u32) -> &[u8] {
-        if self.made && (operator as usize) < self.tables.ends.len() {
-            name_at(self.tables.text, self.tables.ends, operator as usize)
+        let operator = operator as usize;
+        let Some(tables) = self.tables() else {
+            return &[];
+        };
+        if operator < tables.ends.len() {
+            name_at(tables.text, tables.ends, operator)
         } else {
             &[]
         }

@@ -2,5 +2,5 @@ use Rattle.std.proofs.Common.{◌≡◌, drop}
 use Rattle.sas.specs.Actions.{changed}
 use Rattle.sas.proofs.values.change.Given as goal
 
-abbrev pub invariant-loop-i : goal.invariant-loop-i
-invariant-loop-i l = changed (drop l.i l.conditions) l.values ≡ changed l.conditions l.initial.values
+abbrev pub invariant-loop-condition : goal.invariant-loop-condition
+invariant-loop-condition l = changed (drop l.condition-index l.conditions) l.values ≡ changed l.conditions l.initial.values

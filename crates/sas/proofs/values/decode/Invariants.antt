@@ -1,7 +1,8 @@
-use Rattle.std.proofs.Common.{◌≡◌, ◌++◌, take, drop}
+use Rattle.std.proofs.Common.{◌≡◌, ◌++◌, length, drop}
 use Rattle.sas.specs.States.{values}
 use Rattle.sas.specs.Values.{sizes}
 use Rattle.sas.proofs.values.decode.Given as goal
 
-abbrev pub invariant-loop-i : goal.invariant-loop-i
-invariant-loop-i l = take l.i l.values ++ values (sizes (drop l.i l.variables)) l.rest ≡ values (sizes l.variables) l.state
+abbrev pub invariant-loop-variable : goal.invariant-loop-variable
+invariant-loop-variable l =
+    (length l.values.items ≡ l.variable-index) × (l.values.items ++ values (sizes (drop l.variable-index l.variables)) l.rest ≡ values (sizes l.variables) l.state)

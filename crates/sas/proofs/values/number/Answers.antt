@@ -1,24 +1,21 @@
-use Rattle.std.proofs.Common.{arith}
-use Rattle.sas.proofs.Walks.{same_length, number_below, weight_below, left_more, left_all, left_none}
+use Rattle.std.proofs.Common.{◌*◌, ap, arith}
+use Rattle.std.proofs.lemmas.Slice.Zip.{either_empty_from_Zip}
+use Rattle.sas.specs.Values.{sizes}
+use Rattle.sas.proofs.Walks.{left_all, number_below, weight_below}
 use Rattle.sas.proofs.values.number.Goals as goal
 
-pub loop-i-init : goal.loop-i-init
-loop-i-init c = left_none c.args.variables.now c.args.values.now
-
-pub bounds-values-i : goal.bounds-values-i
-bounds-values-i c = omega (arith, same_length c.args.variables.now c.args.values.now c.requires.below)
-
 pub overflow_mul-number : goal.overflow_mul-number
-overflow_mul-number c = let h = number_below c.args.variables.now c.args.values.now c.requires.below c.loop-i.i c.loop-i.number c.loop-i.weight (omega arith) c.loop-i.invariant in omega arith
+overflow_mul-number c =
+    omega (arith, c.requires.small, ap (λ v. c.loop-variable.weight * v) c.from.ensures, number_below _ _ c.requires.below _ c.next.new.self _ _ _ c.in-Some.is c.next.ensures.steps _ _ c.loop-variable.invariant)
 
 pub overflow_add-number : goal.overflow_add-number
-overflow_add-number c = let h = number_below c.args.variables.now c.args.values.now c.requires.below c.loop-i.i c.loop-i.number c.loop-i.weight (omega arith) c.loop-i.invariant in omega arith
+overflow_add-number c =
+    omega (arith, c.requires.small, ap (λ v. c.loop-variable.weight * v) c.from.ensures, number_below _ _ c.requires.below _ c.next.new.self _ _ _ c.in-Some.is c.next.ensures.steps _ _ c.loop-variable.invariant)
 
 pub overflow_mul-weight : goal.overflow_mul-weight
-overflow_mul-weight c = let h = weight_below c.args.variables.now c.args.values.now c.requires.below c.loop-i.i c.loop-i.number c.loop-i.weight (omega arith) c.loop-i.invariant in omega arith
-
-pub loop-i-preserved : goal.loop-i-preserved
-loop-i-preserved c = left_more c.args.variables.now c.args.values.now c.requires.below c.loop-i.i c.loop-i.number c.loop-i.weight (omega arith) c.loop-i.invariant
+overflow_mul-weight c =
+    omega (arith, c.requires.small, ap (λ n. c.loop-variable.weight * n) c.from-weight.ensures, weight_below _ _ c.requires.below _ c.next.new.self _ _ _ c.in-Some.is c.next.ensures.steps _ _ c.loop-variable.invariant)
 
 pub returns : goal.returns
-returns c = left_all c.args.variables.now c.args.values.now c.loop-i.i c.loop-i.number c.loop-i.weight (omega arith) c.loop-i.invariant
+returns c =
+    left_all (sizes c.args.variables.now) c.args.values.now _ _ c.loop-variable.number c.loop-variable.weight (either_empty_from_Zip c.loop-variable.variable-iterator c.next.new.self _ c.in-None.is c.next.ensures.steps) c.loop-variable.invariant

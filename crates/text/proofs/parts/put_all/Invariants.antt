@@ -1,5 +1,8 @@
-use Rattle.text.proofs.Places.{Wrote}
+use Rattle.std.proofs.Common.{◌≡◌, length, take}
+use Rattle.text.specs.Buffer.{over, pieces}
 use Rattle.text.proofs.parts.put_all.Given as goal
 
 abbrev pub invariant-loop-part : goal.invariant-loop-part
-invariant-loop-part l = Wrote (λ part. part.now) l.parts l.at l.part-index l.end l.initial.text l.text
+invariant-loop-part l =
+    let written = pieces (take l.part-index l.parts) in
+    (l.end ≡ length written) × (l.text ≡ over written l.initial.text)

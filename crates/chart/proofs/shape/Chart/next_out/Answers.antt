@@ -1,18 +1,23 @@
-use Rattle.std.proofs.Common.{arith}
-use Rattle.chart.proofs.Charts.{none_past, found_out, chart_indexed}
+use Rattle.std.proofs.Common.{◌≤◌, Some, None, get_or, sym, subst, rules}
+use Rattle.chart.specs.Faults.{no_arc}
+use Rattle.chart.specs.Index.{NextArc}
+use Rattle.chart.specs.Makes.{made_passed}
+use Rattle.chart.specs.Meaning.{FirstOut, meaning_of}
+use Rattle.chart.specs.Tables.{contents}
+use Rattle.chart.proofs.Charts.{found_out, none_past}
 use Rattle.chart.proofs.shape.Chart.next_out.Goals as goal
-use Rattle.chart.proofs.shape.Chart.next_out.Goals.{then-not-self-via-then-not-self, then-not-self-via-else-not-self+then-state-self}
 
-pub returns-then-not-self : goal.returns-then-not-self
-returns-then-not-self c =
-    λ o l. none_past c.args.self.now c.args.state (λ m. elim c.then-not-self.branch [
-      | then-not-self-via-then-not-self w ↦ absurd (grind (arith, m, w.if-not-self.true))
-      | then-not-self-via-else-not-self+then-state-self w ↦ w.if-state-self.true
-    ]) o
+pub returns-in_err-ok : goal.returns-in_err-ok
+returns-in_err-ok c =
+    let h = c.in_ok-held.held.now in
+    let far : 65536 ≤ c.args.state = search rules in
+    let none = none_past (contents h.fit.tables) (made_passed c.args.self.now h (sym c.in_ok-held.ensures.value)) c.args.state far in
+    subst (FirstOut ((meaning_of c.args.self.now.held).move c.args.state) c.args.from) (sym c.from_residual-in_err-ok.ensures)
+    (subst (λ x. FirstOut ((meaning_of x).move c.args.state) c.args.from None) c.in_ok-held.ensures.value (λ o l. none o))
 
-pub returns-in-Some : goal.returns-in-Some
-returns-in-Some c =
-    found_out c.args.self.now c.if-not-self.false c.args.state c.args.from c.in-Some.arc c.in-Some.ensures
-
-pub next_arc-requires : goal.next_arc-requires
-next_arc-requires c = chart_indexed c.args.self.now c.if-not-self.false c.as_slice.result.now c.as_slice.ensures.value
+pub returns : goal.returns
+returns c =
+    let h = c.in_ok-held.held.now in
+    let next : NextArc h.fit.tables.arcs.now c.args.state c.args.from (Some c.in_ok-arc.arc) = search rules in
+    subst (λ x. FirstOut ((meaning_of x).move c.args.state) c.args.from (Some (get_or h.fit.tables.arcs.now c.in_ok-arc.arc no_arc))) c.in_ok-held.ensures.value
+    (found_out (contents h.fit.tables) (made_passed c.args.self.now h (sym c.in_ok-held.ensures.value)) c.args.state c.args.from c.in_ok-arc.arc next)

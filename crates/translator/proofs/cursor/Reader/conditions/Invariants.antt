@@ -7,4 +7,4 @@ use Rattle.translator.proofs.cursor.Reader.conditions.Given as goal
 abbrev pub invariant-loop-at : goal.invariant-loop-at
 invariant-loop-at l =
     (cs : List Condition)
-    × Sofar (record { form = l.form; sizes = l.sizes; count = l.count; first = l.first; write = l.write; table = l.initial.table; seen = l.initial.seen; start = place_of l.initial.self }) l.at (place_of l.self) l.seen l.table cs
+    × Sofar (record { form = l.form; sizes = l.sizes.all.items; count = l.count; first = l.first; table = l.initial.table; seen = l.initial.seen; start = place_of l.initial.self }) l.at (place_of l.self) l.seen l.table cs

@@ -1,16 +1,15 @@
-use Rattle.std.proofs.Common.{◌∙◌, arith}
 use Rattle.translator.specs.Readers.{place_of}
 use Rattle.translator.proofs.Wholes.{rest_filled, rest_read}
 use Rattle.translator.proofs.cursor.Reader.rest.Goals as goal
 
 pub returns : goal.returns
 returns c =
-    let goal = c.in_ok-goal.ensures in
+    let goal = c.in_ok-goal.ensures.tells in
     let list = c.in_ok-used.ensures in
     let count = c.in_ok-count.ensures in
-    let few = rw c.min.ensures at count.within.1 in
-    record {
-      tells = (_, rest_read goal.tells.2 list.tells.2 few (omega arith) c.args.unit c.args.sizes.now (place_of c.args.self.now) goal.tells.1 (rw c.min.ensures at count.tells) list.tells.1 c.in_ok-number_line.ensures.tells c.in_ok-file_end.ensures, rest_filled goal.tells.2 list.tells.2 few (omega arith));
-      same = list.same;
-      conditions_same = λ e. list.table_same e ∙ goal.same e;
-    }
+    let up = c.up_to.ensures in
+    let none = c.up_to-2.ensures in
+    let counted = rw (up.low, up.high, up.below, up.above, c.min.ensures) at count.tells in
+    let few = rw (up.high, c.min.ensures) at count.within.1 in
+    let axioms = rw (none.low, none.high, none.below, none.above) at c.in_ok-number_line.ensures.tells in
+    (_, rest_read c.args.room goal.2 list.2 c.args.unit c.args.sizes.now.all.items (place_of c.args.self.now) goal.1 counted list.1 axioms c.in_ok-file_end.ensures, rest_filled c.args.room goal.2 list.2 few)

@@ -1,0 +1,156 @@
+// The task that the records in use hold: goal tests, steps, first moves and names.
+ghost use Rattle.std.specs.Prelude.{◌≡◌, ◌+◌, ◌^◌, ◌≤◌, length};
+ghost use Rattle.sas.specs.Tables.{part};
+
+use super::InUse;
+use crate::tables::Condition;
+use crate::values::{Values, change, decode, holds, number};
+use task::{NamedTask, Task};
+
+// The `count` elements from `first` on.
+fn part<T>(elements: &[T], first: usize, count: usize) -> &[T]
+    requires { first + count ≤ length elements.now }
+    ensures { result.now ≡ part elements.now first count }
+{
+    &elements[first..first + count]
+}
+
+impl<'a> InUse<'a> {
+    ghost use Rattle.std.specs.Prelude.{◌<◌};
+    ghost use Rattle.std.specs.List.{slice_get};
+    ghost use Rattle.std.specs.Option.{option_copied, option_map};
+    ghost use Rattle.task.specs.Listing.{Each};
+    ghost use Rattle.sas.specs.Actions.{changed};
+    ghost use Rattle.sas.specs.Meaning.{sas_in};
+    ghost use Rattle.sas.specs.Sas.{acts, FirstActing};
+    ghost use Rattle.sas.specs.States.{numbered, values as state_values};
+    ghost use Rattle.sas.specs.Tables.{ConditionFits};
+    ghost use Rattle.sas.specs.Values.{Below, sizes};
+
+    // The values of the variables in the state.
+    fn values(&self, state: u64) -> Values
+        ensures { result.items ≡ state_values (sizes self.now.variables.now) state }
+    {
+        decode(self.variables, state)
+    }
+
+    // What the operator asks and does, if there is one of that number.
+    fn action(&self, operator: u32) -> Option<&'a [Condition]>
+        ensures { option_copied result ≡ option_map (λ a. a.conditions) (slice_get (sas_in self.now).actions operator) }
+    {
+        let operator = self.operators.get(operator as usize)?;
+        Some(part(self.conditions, operator.first, operator.count))
+    }
+
+    // Whether there is an operator of that number and its conditions hold.
+    fn acts(&self, values: &[u32], operator: u32) -> bool
+        requires { length values.now ≡ length self.now.variables.now }
+        ensures { result ≡ acts values.now (slice_get (sas_in self.now).actions operator) }
+    {
+        match self.action(operator) {
+            Some(conditions) => holds(values, conditions),
+            None => false,
+        }
+    }
+
+    // The first operator numbered `from` or more whose conditions hold.
+    fn first_acting(&self, values: &[u32], from: u32) -> Option<u32>
+        requires { length values.now ≡ length self.now.variables.now }
+        ensures { FirstActing (sas_in self.now).actions values.now from result }
+    {
+        (from..self.operators()).find(|operator| self.acts(values, *operator))
+    }
+
+    // The number of the state that the conditions make of the values.
+    fn reached(&self, values: &mut [u32], conditions: &[Condition]) -> u64
+        requires below { Below (sizes self.now.variables.now) values.old }
+        requires fit { Each (ConditionFits (sizes self.now.variables.now)) conditions.now }
+        ensures { result ≡ numbered (sizes self.now.variables.now) (changed conditions.now values.old) }
+    {
+        change(values, conditions);
+        number(self.variables, values)
+    }
+}
+
+impl Task for InUse<'_> {
+    ghost use Rattle.sas.specs.Meaning.{meaning_in};
+    ghost use Rattle.sas.specs.Makes.{in_use_lawful};
+
+    ghost meaning = { meaning_in };
+
+    ghost lawful = { in_use_lawful };
+
+    fn operators(&self) -> u32 {
+        self.operators.len() as u32
+    }
+
+    fn cost(&self, operator: u32) -> u32 {
+        self.operators
+            .get(operator as usize)
+            .map_or(0, |operator| operator.cost)
+    }
+
+    fn span(&self) -> u64 {
+        self.span
+    }
+
+    fn start(&self) -> u64 {
+        self.start
+    }
+
+    fn is_goal(&self, state: u64) -> bool {
+        state < self.span && holds(&self.values(state), self.goal)
+    }
+
+    fn estimate(&self, state: u64) -> Option<u64> {
+        (state < self.span).then_some(0)
+    }
+
+    fn step(&self, state: u64, operator: u32) -> Option<u64> {
+        if state >= self.span {
+            return None;
+        }
+        let conditions = self.action(operator)?;
+        let mut values = self.values(state);
+        if holds(&values, conditions) {
+            Some(self.reached(&mut values, conditions))
+        } else {
+            None
+        }
+    }
+
+    // The values are decoded once for all operators.
+    fn next_move(&self, state: u64, from: u32) -> Option<(u32, u64)> {
+        if state >= self.span {
+            return None;
+        }
+        let mut values = self.values(state);
+        let operator = self.first_acting(&values, from)?;
+        let conditions = self.action(operator)?;
+        Some((operator, self.reached(&mut values, conditions)))
+    }
+}
+
+impl NamedTask for InUse<'_> {
+    ghost use Rattle.sas.specs.Meaning.{names_in};
+    ghost use Rattle.sas.specs.Makes.{in_use_nameless};
+
+    ghost names = { names_in };
+
+    ghost nameless = { in_use_nameless };
+
+    fn name(&self, operator: u32) -> &[u8] {
+        match self.operators.get(operator as usize) {
+            Some(operator) => part(
+                self.bytes,
+                operator.name as usize,
+                operator.name_length as usize,
+            ),
+            None => &[],
+        }
+    }
+
+    fn unit_cost(&self) -> bool {
+        self.unit_cost
+    }
+}

@@ -61,11 +61,11 @@ impl<'a, T: Task> Required<'a, T> {
 
 impl<T: Task> Task for Required<'_, T> {
     ghost use Rattle.layers.specs.Layers.{required_meaning};
-    ghost use Rattle.layers.specs.RequiredLaws.{made_lawful};
+    ghost use Rattle.layers.specs.RequiredLaws.{over_lawful};
 
     ghost meaning = { λ r. required_meaning T.Task.meaning r };
 
-    ghost lawful = { λ r. made_lawful r.operator T.Task.meaning T.Task.lawful r.below r.fits };
+    ghost lawful = { λ r. over_lawful r.operator T.Task.meaning T.Task.lawful r.below r.fits };
 
     fn operators(&self) -> u32 {
         self.below.map_or(0, |task| task.operators())
@@ -105,11 +105,11 @@ impl<T: Task> Task for Required<'_, T> {
 
 impl<T: NamedTask> NamedTask for Required<'_, T> {
     ghost use Rattle.layers.specs.Layers.{required_names};
-    ghost use Rattle.layers.specs.RequiredLaws.{made_nameless};
+    ghost use Rattle.layers.specs.RequiredLaws.{over_nameless};
 
     ghost names = { λ r. required_names T.NamedTask.names r };
 
-    ghost nameless = { λ r. made_nameless r.operator T.Task.meaning T.NamedTask.names T.NamedTask.nameless r.below };
+    ghost nameless = { λ r. over_nameless r.operator T.Task.meaning T.NamedTask.names T.NamedTask.nameless r.below };
 
     fn name(&self, operator: u32) -> &[u8] {
         match self.below {

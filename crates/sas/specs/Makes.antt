@@ -1,7 +1,7 @@
--- What records in use are known to hold, and what a SasTask made of them is. Assumes nothing.
-use Rattle.std.proofs.Common.{◌≡◌, ℕ, ◌≤◌, [], length, Some, None, Option, refl, ap, arith}
+-- What tables in range and records in use are known to hold, and what a SasTask made of them is. Assumes nothing.
+use Rattle.std.proofs.Common.{◌≡◌, ℕ, ◌+◌, ◌≤◌, List, [], length, take, Some, None, Option, refl, ap, subst, arith}
 use Rattle.std.specs.Option.{option_map_or}
-use Rattle.std.proofs.lemmas.List.{length-map}
+use Rattle.std.proofs.lemmas.List.{length-map, length-take-le, take-take, drop-take}
 use Rattle.std.proofs.lemmas.Option.{slice_get_past}
 use Rattle.task.specs.Listing.{Each}
 use Rattle.task.specs.Model.{Lawful}
@@ -11,12 +11,42 @@ use Rattle.task.proofs.Nothing.{nothing_lawful}
 use Rattle.sas.specs.declared.in_use.InUse.{InUse}
 use Rattle.sas.specs.declared.shape.SasTask.{SasTask}
 use Rattle.sas.specs.declared.tables.Operator.{Operator}
-use Rattle.sas.specs.Tables.{ConditionFits, action_of, name_of}
+use Rattle.sas.specs.Tables.{Tables, InRange, ConditionFits, OperatorFits, part, sizes_of, used_operators, action_of, name_of, sas_of, names_of}
 use Rattle.sas.specs.Fits.{ActionFits, SasFits}
 use Rattle.sas.specs.Values.{sizes}
 use Rattle.sas.specs.Meaning.{sas_in, meaning_in, names_in, task_meaning, task_names}
 use Rattle.sas.specs.Found.{OperatorWithin, SizesFit, decides_each, decides_condition, decides_operator, product_fits}
+use Rattle.sas.specs.Sas.{meant}
 use Rattle.sas.specs.Lawful.{meant_lawful}
+
+-- a part of the first n elements
+each_part : {A : Type 0} (P : A → Type 0) (xs : List A) (n first count : ℕ) → first + count ≤ n → Each P (take n xs) → Each P (part xs first count)
+each_part P xs n first count h e =
+    let front = subst (Each P) (take-take (first + count) n xs h) (each_take P (first + count) (take n xs) e) in
+    subst (Each P) (drop-take first count xs) (each-drop P first (take (first + count) xs) front)
+
+-- tables in range hold a task within the limits, which keeps the laws
+module _ (t : Tables) (r : InRange t) where
+  pub in_range_fits : SasFits (sas_of t)
+  in_range_fits =
+      record {
+        sized = each_weaker (λ n. (1 ≤ n) × (n ≤ 1000)) (λ n. 1 ≤ n) (λ n p. p.0) (sizes_of t) r.sizes;
+        small = r.span;
+        starts = r.start;
+        goal = subst (Each (ConditionFits (sizes_of t))) (take-take t.used.goal t.used.conditions t.conditions r.conditions.0) (each_take (ConditionFits (sizes_of t)) t.used.goal (take t.used.conditions t.conditions) r.each_condition);
+        few = omega (arith, length-map (used_operators t) (action_of t.conditions), length-take-le t.used.operators t.operators r.operators.1, r.operators.0);
+        actions = each_map (action_of t.conditions) (ActionFits (sizes_of t)) (used_operators t) (each_weaker _ _ action_fits (used_operators t) r.each_operator);
+      }
+    where
+      action_fits : (o : Operator) → OperatorFits t o → ActionFits (sizes_of t) (action_of t.conditions o)
+      action_fits o w = record { fit = each_part (ConditionFits (sizes_of t)) t.conditions t.used.conditions o.first o.count w.placed r.each_condition; priced = w.priced }
+
+  pub in_range_lawful : Lawful (meant (sas_of t))
+  in_range_lawful = meant_lawful (sas_of t) in_range_fits
+
+  -- and has no name beyond its operators
+  pub in_range_nameless : (o : ℕ) → (meant (sas_of t)).operators ≤ o → (names_of t).name o ≡ []
+  in_range_nameless o h = ap (name_of t.bytes) (slice_get_past (used_operators t) o (omega (arith, length-map (used_operators t) (action_of t.conditions), h)))
 
 module _ (u : InUse) where
   pub sizes_in : SizesFit (sizes u.variables.now)

@@ -7,7 +7,7 @@ use crate::tables::{Arc, ChartTables};
 use task::{Fault, Kind, Layer};
 
 // An estimate of this number means that a state is hopeless.
-const HOPELESS: u32 = 4294967295;
+const HOPELESS: u32 = u32::MAX;
 
 // Tables within the limits, those of the same things as long as each other.
 #[derive(Clone, Copy)]
@@ -20,7 +20,7 @@ pub(crate) struct FitTables<'a> {
 fn is_cost(cost: u32) -> bool
     ensures { result ≡ cost_fits cost }
 {
-    cost >= 1 && cost <= 1000000
+    (1..=1000000).contains(&cost)
 }
 
 // The place where the name of an operator begins.

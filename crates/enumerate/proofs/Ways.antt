@@ -7,17 +7,13 @@ use Rattle.task.specs.Moves.{FirstMove}
 use Rattle.task.specs.Order.{Before}
 use Rattle.task.specs.Plans.{then_on, follow, price, Reaches}
 use Rattle.enumerate.specs.Completes.{Completes, CompletesBelow}
+use Rattle.task.proofs.Models.{came_on}
 use Rattle.task.proofs.Listings.{all_of_alike, all_of_either, all_of_led, LedBy}
-
--- where going on leads somewhere, there was a state to go on from
-pub then_on_some : (x : Option ℕ) (f : ℕ → Option ℕ) (u : ℕ) → then_on x f ≡ Some u → (t : ℕ) × (x ≡ Some t) × (f t ≡ Some u)
-then_on_some None f u e = absurd (grind arith)
-then_on_some (Some t) f u e = (t, refl, e)
 
 module _ (m : Model) (s : ℕ) where
   -- an operator that leads nowhere begins no way to a goal
   pub no_move_no_way : (o : ℕ) (os : List ℕ) → m.move s o ≡ None → Reaches m s (o ∷ os) → ⊥
-  no_move_no_way o os e r = let p = then_on_some (m.move s o) (λ t. follow m t os) r.0 r.1 in no p.0 p.1
+  no_move_no_way o os e r = let p = came_on (m.move s o) (λ t. follow m t os) r.0 r.1 in no p.0 p.1
     where
       no : (t : ℕ) → m.move s o ≡ Some t → ⊥
       no t h = grind arith

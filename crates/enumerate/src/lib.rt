@@ -1,4 +1,5 @@
 // All plans of one price, and the cheapest plans, by plain enumeration: what a search is compared with.
+// The heap is handed to each function that allocates, as in the library.
 #![tactic(auto)]
 
 ghost use Rattle.std.specs.Prelude.{◌≡◌, ℕ, List, ◌∷◌, ◌++◌, map, vec_items, IfOk};

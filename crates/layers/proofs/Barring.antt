@@ -7,7 +7,7 @@ use Rattle.task.specs.Plans.{follow}
 use Rattle.layers.specs.Theorems.{BarredPlans, BarredBeyond}
 use Rattle.layers.specs.Barred.{barred}
 use Rattle.layers.specs.BarredLaws.{move_below}
-use Rattle.layers.specs.RequiredLaws.{came_on}
+use Rattle.task.proofs.Models.{came_on}
 use Rattle.layers.proofs.Following.{goes_on, used_below, same_price}
 
 -- a move below of another operator is left

@@ -3,7 +3,7 @@ use Rattle.std.proofs.Common.{◌≡◌, ℕ, ◌<◌, List, [], ◌∷◌, Some
 use Rattle.task.specs.Listing.{In}
 use Rattle.task.specs.Model.{Model, Lawful}
 use Rattle.task.specs.Plans.{then_on, follow, price}
-use Rattle.layers.specs.RequiredLaws.{came_on}
+use Rattle.task.proofs.Models.{came_on}
 
 -- from a state that it has come to, a way goes on
 pub goes_on : (x : Option ℕ) (f : ℕ → Option ℕ) (t u : ℕ) → x ≡ Some t → f t ≡ Some u → then_on x f ≡ Some u

@@ -8,7 +8,8 @@ use Rattle.task.specs.Plans.{follow, Plan}
 use Rattle.layers.specs.Layers.{required_made}
 use Rattle.layers.specs.Required.{used_after, required}
 use Rattle.layers.specs.Theorems.{RequiredPlans, RequiredBeyond}
-use Rattle.layers.specs.RequiredLaws.{came_on, mark_small, move_below, goal_below}
+use Rattle.task.proofs.Models.{came_on}
+use Rattle.layers.specs.RequiredLaws.{mark_small, move_below, goal_below}
 use Rattle.layers.proofs.Following.{goes_on, used_below, same_price}
 
 -- a goal below is a goal with the mark

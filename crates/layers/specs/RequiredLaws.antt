@@ -3,15 +3,10 @@ use Rattle.std.proofs.Common.{◌≡◌, ℕ, ◌+◌, ◌*◌, ◌/◌, ◌%◌
 use Rattle.task.specs.Model.{Model, Lawful}
 use Rattle.task.specs.Names.{Names}
 use Rattle.task.specs.Nothing.{nothing, no_names}
-use Rattle.task.specs.Plans.{then_on}
+use Rattle.task.proofs.Models.{came_on}
 use Rattle.task.proofs.Nothing.{nothing_lawful}
 use Rattle.layers.specs.Layers.{where_doubled, required_made, required_over, names_over}
 use Rattle.layers.specs.Required.{used_after, required}
-
--- where a way goes on, it has come to a state
-pub came_on : (x : Option ℕ) (f : ℕ → Option ℕ) (u : ℕ) → then_on x f ≡ Some u → (t : ℕ) × (x ≡ Some t) × (f t ≡ Some u)
-came_on None f u e = absurd (grind arith)
-came_on (Some t) f u e = (t, refl, e)
 
 -- a mark stays below 2
 pub mark_small : (o p u : ℕ) → u < 2 → used_after o p u < 2

@@ -17,6 +17,7 @@ const HIGHEST: u32 = 8;
 fn push_refusal(text: &mut Vec<u8>, fault: Fault) -> Result<(), AllocError>
     ensures { IfOk result (λ _. text.new.items ≡ text.old.items ++ refusal_line fault) }
 {
+    // Text goes into a lent buffer; the line of a refusal has at most 64 bytes.
     let mut line = [0; 64];
     let length = write_refusal(fault, &mut line).unwrap();
     text.extend_from_slice(&line[..length])?;

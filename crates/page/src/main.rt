@@ -96,6 +96,7 @@ fn show_plans<T: NamedTask>(rt: &HostRuntime, title: &str, task: &T) -> Result<(
         None => println!(rt; "no plan")?,
         Some(plans) => {
             for steps in plans.iter() {
+                // Text goes into a lent buffer; a plan with a longer text ends the program.
                 let mut text = [0; 512];
                 let length = write_plan(task, steps, &mut text)?;
                 rt.stdout().write_all(&text[..length])?;

@@ -30,6 +30,7 @@ fn run(rt: &HostRuntime) -> io::Result<ExitCode> {
             })
         }
         Err(e) => {
+            // Text goes into a lent buffer.
             let mut line = [0; 64];
             let length = write_refusal(Fault::from(e), &mut line).unwrap();
             output.write_all(&line[..length])?;

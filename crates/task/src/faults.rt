@@ -71,7 +71,8 @@ pub struct Fault {
 }
 
 impl Kind {
-    // The number by which the kind is known, 1 to 18; none for want of memory.
+    // The number by which the kind is known, 1 to 18; none for want of memory. By hand: the numbers are the
+    // project's own, and one kind has none.
     pub fn number(self) -> Option<u32>
         ensures { result ≡ number_of self }
     {

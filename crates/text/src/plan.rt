@@ -32,6 +32,7 @@ fn check_operators<T: Task>(task: &T, steps: &[u32]) -> Result<(), Fault>
     requires { length steps.now ≤ 65535 }
     ensures { result ≡ check_known (first_unknown (T.Task.meaning task.now).operators 0 steps.now) }
 {
+    // By hand: where there is a place, it is the refusal.
     match first_unknown(task, steps) {
         None => Ok(()),
         Some(place) => Err(Layer::Text.fault(Kind::OutOfRange, place as u32)),

@@ -70,10 +70,6 @@ ended p (w ∷ ws) = refuse BadNumber p
 abbrev pub line_end : Place → Read (Unit {0})
 line_end p = ended p p.left
 
--- the first number of the next line
-abbrev pub first_number : Place → Read ℕ
-first_number p = and_then (next_line p) (λ l q. next_number q)
-
 -- r is what d answers, its value seen by f, and p the place after it
 abbrev pub Tells : {A V : Type 0} → (V → A) → Read A → Result V Fault → Place → Type 0
 Tells f d (Ok v) p = d ≡ Ok (f v, p)

@@ -1,7 +1,7 @@
 // Lines, their parts and their numbers.
 ghost use Rattle.std.specs.Prelude.{◌≡◌, ◌<◌, ◌≤◌, length, IfSome, IfOk};
 ghost use Rattle.translator.specs.Lines.{line_length, cut, cut_at};
-ghost use Rattle.translator.specs.Reads.{Tells, next_line, next_part, next_number, next_signed, first_number, line_end, fault_at};
+ghost use Rattle.translator.specs.Reads.{Tells, next_line, next_part, next_number, next_signed, line_end, fault_at};
 ghost use Rattle.translator.specs.Reads.{keyword};
 ghost use Rattle.translator.specs.Readers.{place_of};
 
@@ -92,14 +92,6 @@ impl<'a> Reader<'a> {
     {
         let part = self.next_part()?;
         signed(part).ok_or(self.fault(Kind::BadNumber))
-    }
-
-    // The first number of the next line.
-    pub(crate) fn first_number(&mut self) -> Result<u32, Fault>
-        ensures { Tells (λ v. v) (first_number (place_of self.old)) result (place_of self.new) }
-    {
-        self.next_line()?;
-        self.next_number()
     }
 
     // That no part of the line in hand is left.

@@ -14,7 +14,7 @@ use sas::{Condition, Operator};
 use task::{Fault, Kind};
 
 // No number of a file is greater.
-const UNLIMITED: usize = 4_294_967_295;
+const UNLIMITED: usize = u32::MAX as usize;
 
 impl<'a> Reader<'a> {
     // A mutex group, which is checked and kept nowhere.

@@ -47,6 +47,7 @@ impl<'a> InUse<'a> {
         requires { length values.now ≡ length self.now.variables.now }
         ensures { result ≡ acts values.now (slice_get (sas_in self.now).actions operator) }
     {
+        // By hand: in a closure, what `holds` asks of the conditions was not proved.
         match self.action(operator) {
             Some(conditions) => holds(values, conditions),
             None => false,

@@ -1,5 +1,6 @@
--- The range tests find what they test for, and the product of sizes is the span. Assumes nothing.
-use Rattle.std.proofs.Common.{◌≡◌, ℕ, ◌+◌, ◌^◌, ◌≤◌, Bool, true, false, cond, ◌&&◌, leb, List, [], ◌∷◌, length, get_or, Some, None, Decides, Option, sym, refl, ap, ◌∙◌, one-mul, arith}
+-- The range tests find what they test for, and a span exactly where the tables are in range, which is theirs.
+-- Assumes nothing.
+use Rattle.std.proofs.Common.{◌≡◌, ℕ, ◌+◌, ◌^◌, ◌<◌, ◌≤◌, Bool, true, false, cond, ◌&&◌, leb, List, [], ◌∷◌, length, get_or, take, Some, None, Decides, Option, sym, refl, ap, ◌∙◌, one-mul, arith}
 use Rattle.std.specs.List.{list_all}
 use Rattle.std.proofs.lemmas.Bool.{cond-true, leb-true, le-leb}
 use Rattle.std.proofs.lemmas.Bool.Decides.{Decides-and, Decides-like, Decides-ltb}
@@ -7,8 +8,8 @@ use Rattle.task.specs.Listing.{Each}
 use Rattle.sas.specs.declared.tables.Condition.{Condition}
 use Rattle.sas.specs.declared.tables.Operator.{Operator}
 use Rattle.sas.specs.States.{spanned}
-use Rattle.sas.specs.Tables.{Valid, ConditionFits}
-use Rattle.sas.specs.Checks.{size_fits, product, valid, condition_fits, operator_fits}
+use Rattle.sas.specs.Tables.{Tables, InRange, Valid, ConditionFits, OperatorFits, sizes_of, used_operators}
+use Rattle.sas.specs.Checks.{size_fits, product, valid, condition_fits, operator_fits, tables_count, tables_fit, fitting, range}
 
 pub decides_each : {A : Type 0} (p : A → Bool) (P : A → Type 0) → ((x : A) → Decides (p x) (P x)) → (xs : List A) → Decides (list_all p xs) (Each P xs)
 decides_each p P f [] = (λ e. tt, λ e. refl)
@@ -71,3 +72,71 @@ product_fits ns s e = go (sizes_fit ns) refl (sym (product_is ns) ∙ e)
     go : (b : Bool) → sizes_fit ns ≡ b → cond b (Some (spanned ns)) None ≡ Some s → SizesFit ns × (s ≡ spanned ns)
     go false f e = absurd (grind arith)
     go true f e = ((decides_sizes ns).0 f, cc)
+
+decides_placed : (t : Tables) (o : Operator) → Decides (operator_fits (length t.bytes) t.used.conditions o) (OperatorFits t o)
+decides_placed t o =
+    Decides-like (operator_fits (length t.bytes) t.used.conditions o)
+    (λ w. record { named = w.named; placed = w.placed; priced = w.priced })
+    (λ f. record { named = f.named; placed = f.placed; priced = f.priced })
+    (decides_operator (length t.bytes) t.used.conditions o)
+
+abbrev Counts : Tables → Type 0
+Counts t =
+    ((1 ≤ t.used.variables) × ((t.used.variables ≤ 60) × (t.used.variables ≤ length t.variables)))
+    × (((t.used.operators ≤ 4096) × (t.used.operators ≤ length t.operators)) × ((t.used.goal ≤ t.used.conditions) × (t.used.conditions ≤ length t.conditions)))
+
+decides_counts : (t : Tables) → Decides (tables_count t) (Counts t)
+decides_counts t =
+    Decides-and _ _
+    (Decides-and _ _ (decides_leb 1 t.used.variables) (Decides-and _ _ (decides_leb t.used.variables 60) (decides_leb t.used.variables (length t.variables))))
+    (Decides-and _ _ (Decides-and _ _ (decides_leb t.used.operators 4096) (decides_leb t.used.operators (length t.operators))) (Decides-and _ _ (decides_leb t.used.goal t.used.conditions) (decides_leb t.used.conditions (length t.conditions))))
+
+abbrev Fit : Tables → ℕ → Type 0
+Fit t span = (t.used.start < span) × (Each (ConditionFits (sizes_of t)) (take t.used.conditions t.conditions) × Each (OperatorFits t) (used_operators t))
+
+decides_fit : (t : Tables) (span : ℕ) → Decides (tables_fit t span) (Fit t span)
+decides_fit t span =
+    Decides-and _ _ (Decides-ltb t.used.start span)
+    (Decides-and _ _ (decides_each _ _ (decides_condition (sizes_of t)) (take t.used.conditions t.conditions)) (decides_each _ _ (decides_placed t) (used_operators t)))
+
+module _ (t : Tables) where
+  range_is : range t ≡ cond (tables_count t) (fitting t (cond (sizes_fit (sizes_of t)) (Some (spanned (sizes_of t))) None)) None
+  range_is = ap (λ p. cond (tables_count t) (fitting t p) None) (product_is (sizes_of t))
+
+  pub found_in_range : InRange t → range t ≡ Some (spanned (sizes_of t))
+  found_in_range r =
+      let counts = (decides_counts t).1 ((r.variables.0, (r.variables.1, r.variables.2)), ((r.operators.0, r.operators.1), (r.conditions.0, r.conditions.1))) in
+      let sizes = (decides_sizes (sizes_of t)).1 (record { sizes = r.sizes; small = r.span }) in
+      let fit = (decides_fit t (spanned (sizes_of t))).1 (r.start, (r.each_condition, r.each_operator)) in
+      range_is
+      ∙ (cond-true (tables_count t) _ None counts
+      ∙ (ap (fitting t) (cond-true (sizes_fit (sizes_of t)) (Some (spanned (sizes_of t))) None sizes)
+      ∙ cond-true (tables_fit t (spanned (sizes_of t))) (Some (spanned (sizes_of t))) None fit))
+
+  pub in_range_found : (s : ℕ) → range t ≡ Some s → InRange t × (s ≡ spanned (sizes_of t))
+  in_range_found s e = counted (tables_count t) refl (sym range_is ∙ e)
+    where
+      fitted : (b : Bool) → tables_fit t (spanned (sizes_of t)) ≡ b → Counts t → SizesFit (sizes_of t) → cond b (Some (spanned (sizes_of t))) None ≡ Some s → InRange t × (s ≡ spanned (sizes_of t))
+      fitted false f c z e = absurd (grind arith)
+      fitted true f c z e =
+          let p = (decides_fit t (spanned (sizes_of t))).0 f in (
+            record {
+              variables = (c.0.0, c.0.1.0, c.0.1.1);
+              operators = (c.1.0.0, c.1.0.1);
+              conditions = (c.1.1.0, c.1.1.1);
+              sizes = z.sizes;
+              span = z.small;
+              start = p.0;
+              each_condition = p.1.0;
+              each_operator = p.1.1;
+            },
+            (cc),
+          )
+
+      sized : (b : Bool) → sizes_fit (sizes_of t) ≡ b → Counts t → fitting t (cond b (Some (spanned (sizes_of t))) None) ≡ Some s → InRange t × (s ≡ spanned (sizes_of t))
+      sized false f c e = absurd (grind arith)
+      sized true f c e = fitted (tables_fit t (spanned (sizes_of t))) refl c ((decides_sizes (sizes_of t)).0 f) e
+
+      counted : (b : Bool) → tables_count t ≡ b → cond b (fitting t (cond (sizes_fit (sizes_of t)) (Some (spanned (sizes_of t))) None)) None ≡ Some s → InRange t × (s ≡ spanned (sizes_of t))
+      counted false f e = absurd (grind arith)
+      counted true f e = sized (sizes_fit (sizes_of t)) refl ((decides_counts t).0 f) e

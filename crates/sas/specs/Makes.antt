@@ -1,8 +1,8 @@
 -- What tables in range and records in use are known to hold, and what a SasTask made of them is. Assumes nothing.
-use Rattle.std.proofs.Common.{◌≡◌, ℕ, ◌+◌, ◌≤◌, List, [], length, take, Some, None, Option, refl, ap, subst, arith}
-use Rattle.std.specs.Option.{option_map_or}
+use Rattle.std.proofs.Common.{◌≡◌, ℕ, ◌+◌, ◌≤◌, List, [], length, take, Some, None, Option, unwrap_or, refl, sym, ap, ◌∙◌, subst, arith}
+use Rattle.std.specs.Option.{MatchOption, option_map_or}
 use Rattle.std.proofs.lemmas.List.{length-map, length-take-le, take-take, drop-take}
-use Rattle.std.proofs.lemmas.Option.{slice_get_past}
+use Rattle.std.proofs.lemmas.Option.{none-some, slice_get_past}
 use Rattle.task.specs.Listing.{Each}
 use Rattle.task.specs.Model.{Lawful}
 use Rattle.task.specs.Nothing.{nothing, no_names}
@@ -12,10 +12,11 @@ use Rattle.sas.specs.declared.in_use.InUse.{InUse}
 use Rattle.sas.specs.declared.shape.SasTask.{SasTask}
 use Rattle.sas.specs.declared.tables.Operator.{Operator}
 use Rattle.sas.specs.Tables.{Tables, InRange, ConditionFits, OperatorFits, part, sizes_of, used_operators, action_of, name_of, sas_of, names_of}
+use Rattle.sas.specs.Checks.{range}
 use Rattle.sas.specs.Fits.{ActionFits, SasFits}
 use Rattle.sas.specs.Values.{sizes}
-use Rattle.sas.specs.Meaning.{sas_in, meaning_in, names_in, task_meaning, task_names}
-use Rattle.sas.specs.Found.{OperatorWithin, SizesFit, decides_each, decides_condition, decides_operator, product_fits}
+use Rattle.sas.specs.Meaning.{sas_in, meaning_in, names_in, UseOf, Made, task_meaning, task_names}
+use Rattle.sas.specs.Found.{OperatorWithin, SizesFit, decides_each, decides_condition, decides_operator, product_fits, found_in_range, in_range_found}
 use Rattle.sas.specs.Sas.{meant}
 use Rattle.sas.specs.Lawful.{meant_lawful}
 
@@ -27,6 +28,12 @@ each_part P xs n first count h e =
 
 -- tables in range hold a task within the limits, which keeps the laws
 module _ (t : Tables) (r : InRange t) where
+  pub operators_count : length (used_operators t) ≡ t.used.operators
+  operators_count = length-take-le t.used.operators t.operators r.operators.1
+
+  pub actions_count : length (sas_of t).actions ≡ t.used.operators
+  actions_count = length-map (used_operators t) (action_of t.conditions) ∙ operators_count
+
   pub in_range_fits : SasFits (sas_of t)
   in_range_fits =
       record {
@@ -34,7 +41,7 @@ module _ (t : Tables) (r : InRange t) where
         small = r.span;
         starts = r.start;
         goal = subst (Each (ConditionFits (sizes_of t))) (take-take t.used.goal t.used.conditions t.conditions r.conditions.0) (each_take (ConditionFits (sizes_of t)) t.used.goal (take t.used.conditions t.conditions) r.each_condition);
-        few = omega (arith, length-map (used_operators t) (action_of t.conditions), length-take-le t.used.operators t.operators r.operators.1, r.operators.0);
+        few = omega (arith, actions_count, r.operators.0);
         actions = each_map (action_of t.conditions) (ActionFits (sizes_of t)) (used_operators t) (each_weaker _ _ action_fits (used_operators t) r.each_operator);
       }
     where
@@ -101,3 +108,16 @@ task_nameless s o h = go s.in_use h
     go : (x : Option InUse) → (option_map_or meaning_in x nothing).operators ≤ o → (option_map_or names_in x no_names).name o ≡ []
     go None h = refl
     go (Some u) h = in_use_nameless u o h
+
+-- what is in use of the tables makes the task of the tables
+pub made_of_use : (t : Tables) (x : Option InUse) → MatchOption x (InRange t → ⊥) (UseOf t) → Made t (record { in_use = x })
+made_of_use t None n = record { held = λ r. absurd (n r); refused = λ m. (refl, refl) }
+made_of_use t (Some u) f = record { held = λ r. (ap meant f.task, f.names); refused = λ n. absurd (n f.range) }
+
+-- the span of what is made is the one that the range tests find, and else 1
+pub made_span : (t : Tables) (s : SasTask) → Made t s → (task_meaning s).span ≡ unwrap_or (range t) 1
+made_span t s made = go (range t) refl
+  where
+    go : (x : Option ℕ) → range t ≡ x → (task_meaning s).span ≡ unwrap_or x 1
+    go None e = ap (λ m. m.span) (made.refused (λ r. none-some _ (sym e ∙ found_in_range t r))).0
+    go (Some n) e = let f = in_range_found t n e in ap (λ m. m.span) (made.held f.0).0 ∙ sym f.1

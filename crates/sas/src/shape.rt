@@ -1,5 +1,7 @@
 // The task made from tables, and its calls.
-ghost use Rattle.sas.specs.Checks.{contents};
+ghost use Rattle.std.specs.Prelude.{◌≡◌};
+ghost use Rattle.std.specs.Option.{unwrap_or};
+ghost use Rattle.sas.specs.Checks.{contents, range};
 ghost use Rattle.sas.specs.Makes.{task_lawful, task_nameless};
 ghost use Rattle.sas.specs.Meaning.{Made, task_meaning, task_names};
 
@@ -16,7 +18,8 @@ pub struct SasTask<'a> {
 impl<'a> SasTask<'a> {
     // The task that the tables hold; the empty task where they are not in range.
     pub fn new(tables: SasTables<'a>) -> SasTask<'a>
-        ensures { Made (contents tables.entry) result }
+        ensures made { Made (contents tables.entry) result }
+        ensures span { (task_meaning result).span ≡ unwrap_or (range (contents tables.entry)) 1 }
     {
         SasTask {
             in_use: InUse::of(tables),

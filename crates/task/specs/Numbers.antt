@@ -1,7 +1,9 @@
--- The number of each kind of fault. Assumes nothing.
+-- The number of each kind of fault, and want of memory as a fault. Assumes nothing.
 use Rattle.std.specs.Prelude.{ℕ, Some, None, Option}
+use Rattle.task.specs.declared.faults.Fault.{Fault}
 use Rattle.task.specs.declared.faults.Kind.{Kind}
 use Rattle.task.specs.declared.faults.Kind.TheVariants.{EndsEarly, WrongWord, BadNumber, NotCarried, VariableTwice, OverLimit, BytesAfterEnd, OutOfRange, ArcRepeated, EstimateLaw, SpanTooWide, Unfinished, Full, NoPlan, PastEnd, BufferShort, TooMany, NotThisTask, NoMemory}
+use Rattle.task.specs.declared.faults.Layer.TheVariants.{Memory}
 
 abbrev pub number_of : Kind → Option ℕ
 number_of EndsEarly = Some 1
@@ -23,3 +25,6 @@ number_of BufferShort = Some 16
 number_of TooMany = Some 17
 number_of NotThisTask = Some 18
 number_of NoMemory = None
+
+abbrev pub no_memory : Fault
+no_memory = record { kind = NoMemory; place = 0; layer = Memory }

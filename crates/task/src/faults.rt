@@ -1,8 +1,6 @@
 // A refusal: what is wrong, at which place, met by which layer.
 ghost use Rattle.std.specs.Prelude.{◌≡◌};
-ghost use Rattle.task.specs.Numbers.{number_of};
-ghost use Rattle.task.specs.declared.faults.Kind.TheVariants.{NoMemory};
-ghost use Rattle.task.specs.declared.faults.Layer.TheVariants.{Memory};
+ghost use Rattle.task.specs.Numbers.{no_memory, number_of};
 
 use std::alloc::{AllocError, AllocFailed};
 use thiserror::Error;
@@ -116,14 +114,14 @@ impl Layer {
 impl Fault {
     // Want of memory.
     pub fn memory() -> Fault
-        ensures { result ≡ record { kind = NoMemory; place = 0; layer = Memory } }
+        ensures { result ≡ no_memory }
     {
         Layer::Memory.fault(Kind::NoMemory, 0)
     }
 }
 
 impl From<AllocError> for Fault {
-    ghost from_gives = { λ _ r. r ≡ record { kind = NoMemory; place = 0; layer = Memory } };
+    ghost from_gives = { λ _ r. r ≡ no_memory };
 
     fn from(_e: AllocError) -> Fault {
         Fault::memory()
@@ -131,7 +129,7 @@ impl From<AllocError> for Fault {
 }
 
 impl<T: Drop> From<AllocFailed<T>> for Fault {
-    ghost from_gives = { λ _ r. r ≡ record { kind = NoMemory; place = 0; layer = Memory } };
+    ghost from_gives = { λ _ r. r ≡ no_memory };
 
     fn from(_e: AllocFailed<T>) -> Fault {
         Fault::memory()

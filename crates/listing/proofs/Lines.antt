@@ -1,5 +1,5 @@
 -- The line of a refusal is short. Assumes nothing.
-use Rattle.std.proofs.Common.{◌≡◌, ℕ, ◌^◌, ◌<◌, ◌≤◌, List, ◌++◌, length, take, drop, IfSome, Some, None, Ok, Err, codes, decimal, Option, Result, sym, ap, ◌∙◌, arith}
+use Rattle.std.proofs.Common.{◌≡◌, ℕ, ◌^◌, ◌<◌, ◌≤◌, List, ◌++◌, length, take, drop, IfSome, Some, None, Ok, codes, decimal, Option, Result, sym, ap, ◌∙◌, arith}
 use Rattle.std.proofs.lemmas.Fmt.{length-decimal-le}
 use Rattle.std.proofs.lemmas.List.{length-append, take_at}
 use Rattle.std.proofs.lemmas.Bool.{cond-false, le-ltb}
@@ -47,12 +47,6 @@ line_short (Some n) place h k =
 -- a buffer of 64 bytes takes the line
 pub line_fits : (f : Fault) → f.place < 2 ^ 32 → fit 64 (length (refusal_line f)) ≡ Ok (length (refusal_line f))
 line_fits f h = cond-false _ _ _ (le-ltb 64 (length (refusal_line f)) (line_short (number_of f.kind) f.place (number_small f.kind) h))
-
-never_ok : (e : Fault) (n : ℕ) (r : Result ℕ Fault) → Err e ≡ r → r ≡ Ok n → ⊥
-never_ok e n r p q = let z : ◌≡◌ {A = ℕ} 0 1 = cc in omega arith
-
-pub never_short : (f e : Fault) → f.place < 2 ^ 32 → Err e ≡ fit 64 (length (refusal_line f)) → ⊥
-never_short f e h p = never_ok e _ _ p (line_fits f h)
 
 ok_is : (m n : ℕ) (r : Result ℕ Fault) → Ok m ≡ r → r ≡ Ok n → m ≡ n
 ok_is m n r p q = cc

@@ -13,24 +13,28 @@ use tally::{Pair, Watch, join_all, share, value_of};
 use task::{NamedTask, Task};
 use text::write_plan;
 
-// Five treatments, by the numbers that the arcs use: crop, despeckle, read, type and bleach.
+// Five treatments, by the numbers that the arcs use.
+const CROP: u32 = 0;
+
+const DESPECKLE: u32 = 1;
+
+const READ: u32 = 2;
+
+const TYPE: u32 = 3;
+
+const BLEACH: u32 = 4;
+
 const COSTS: [u32; 5] = [1, 1, 2, 6, 1];
 
 const NAMES: [u8; 27] = *b"cropdespecklereadtypebleach";
 
 const ENDS: [usize; 5] = [4, 13, 17, 21, 27];
 
-const CROP: u32 = 0;
-
-const TYPE: u32 = 3;
-
-const BLEACH: u32 = 4;
-
 // Six states of a page: as it came, cropped, despeckled, both, read (the goal), and bleached, which is
 // hopeless. An estimate never exceeds what the way to the goal costs.
 const GOALS: [bool; 6] = [false, false, false, false, true, false];
 
-const ESTIMATES: [u32; 6] = [3, 3, 3, 2, 0, 4_294_967_295];
+const ESTIMATES: [u32; 6] = [3, 3, 3, 2, 0, u32::MAX];
 
 // Plans are looked for up to this cost.
 const HIGHEST: u32 = 8;
@@ -40,37 +44,37 @@ fn page_arcs() -> [Arc; 7] {
     [
         Arc {
             from: 0,
-            operator: 0,
+            operator: CROP,
             to: 1,
         },
         Arc {
             from: 0,
-            operator: 1,
+            operator: DESPECKLE,
             to: 2,
         },
         Arc {
             from: 1,
-            operator: 1,
+            operator: DESPECKLE,
             to: 3,
         },
         Arc {
             from: 2,
-            operator: 0,
+            operator: CROP,
             to: 3,
         },
         Arc {
             from: 3,
-            operator: 2,
+            operator: READ,
             to: 4,
         },
         Arc {
             from: 0,
-            operator: 3,
+            operator: TYPE,
             to: 4,
         },
         Arc {
             from: 0,
-            operator: 4,
+            operator: BLEACH,
             to: 5,
         },
     ]

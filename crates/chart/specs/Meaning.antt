@@ -3,9 +3,8 @@ use Rattle.std.specs.Prelude.{◌≡◌, ℕ, ◌<◌, ◌≤◌, ◌⊎◌, Som
 use Rattle.task.specs.Model.{Model}
 use Rattle.task.specs.Names.{Names}
 use Rattle.task.specs.Nothing.{nothing, no_names}
+use Rattle.task.specs.Numbers.{no_memory}
 use Rattle.task.specs.declared.faults.Fault.{Fault}
-use Rattle.task.specs.declared.faults.Kind.TheVariants.{NoMemory}
-use Rattle.task.specs.declared.faults.Layer.TheVariants.{Memory}
 use Rattle.chart.specs.declared.index.IndexedTables.{IndexedTables}
 use Rattle.chart.specs.declared.shape.Chart.{Chart}
 use Rattle.chart.specs.declared.tables.Arc.{Arc}
@@ -31,9 +30,6 @@ task_names c = naming_of c.held
 pub record Made (t : Tables) (c : Chart) : Type 0 where
   pub held : chart_fault t ≡ None → (task_meaning c ≡ charted t) × (task_names c ≡ chart_names t)
   pub refused : (f : Fault) → chart_fault t ≡ Some f → (task_meaning c ≡ nothing) × (task_names c ≡ no_names)
-
-abbrev pub no_memory : Fault
-no_memory = record { kind = NoMemory; place = 0; layer = Memory }
 
 -- the first fault, or want of memory for the checks that compare records
 abbrev pub Checked : Tables → Result (Unit {0}) Fault → Type 0

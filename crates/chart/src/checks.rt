@@ -6,7 +6,8 @@ ghost use Rattle.chart.specs.Tables.{contents, hope, name_start};
 use crate::tables::{Arc, ChartTables};
 use task::{Fault, Kind, Layer};
 
-// An estimate of this number means that a state is hopeless.
+// An estimate of this number means that a state is hopeless. By hand: a rule of the project fixes the tables'
+// estimates as numbers; `estimate_at` answers an `Option`.
 const HOPELESS: u32 = u32::MAX;
 
 // Tables within the limits, those of the same things as long as each other.
@@ -96,7 +97,8 @@ fn is_lawful(tables: ChartTables, arc: Arc) -> bool
     )
 }
 
-// The fault of the first record, of so many, that fails the test.
+// The fault of the first record, of so many, that fails the test. By index: some rules compare records of two
+// tables, or a record with the one before it.
 pub(crate) fn check_each<F: Fn(usize) -> bool>(
     kind: Kind,
     count: usize,

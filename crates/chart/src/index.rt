@@ -22,15 +22,16 @@ fn entries_of(heap: Global, fit: &FitTables) -> Result<Vec<Entry>, AllocError>
     ensures { IfOk result
         (λ v. Listed fit.now.tables.arcs.now (length fit.now.tables.arcs.now) v.items) }
 {
-    let mut entries = Vec::new(heap);
-    for (i, arc) in fit.tables.arcs.iter().enumerate() {
-        entries.push(Entry {
+    fit.tables
+        .arcs
+        .iter()
+        .enumerate()
+        .map(|(k, arc)| Entry {
             from: arc.from,
             operator: arc.operator,
-            arc: i as u32,
-        })?;
-    }
-    Ok(entries)
+            arc: k as u32,
+        })
+        .collect(heap)
 }
 
 impl<'a> IndexedTables<'a> {

@@ -10,7 +10,8 @@ pub struct Arc {
 
 // The cost of each operator, and the place in `text` where its name ends, each name beginning where the one
 // before it ends; whether each state is a goal, and its estimate, where the largest number means that it is
-// hopeless; the arcs, and the start state.
+// hopeless; the arcs, and the start state. By hand: a rule of the project fixes these tables, with one text for
+// all names, two tables of states, and estimates of 32 bits whose largest stands for none.
 #[derive(Clone, Copy)]
 pub struct ChartTables<'a> {
     pub costs: &'a [u32],

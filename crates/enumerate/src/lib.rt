@@ -1,5 +1,4 @@
 // All plans of one price, and the cheapest plans, by plain enumeration: what a search is compared with.
-// The heap is handed to each function that allocates, as in the library.
 #![tactic(auto)]
 
 ghost use Rattle.std.specs.Prelude.{◌≡◌, ℕ, List, ◌∷◌, ◌++◌, map, vec_items, IfOk};
@@ -56,7 +55,8 @@ fn empty_if_done<T: Task>(
     }
 }
 
-// All lists of price exactly `price` that lead from `state` to a goal, in listing order.
+// All lists of price exactly `price` that lead from `state` to a goal, in listing order. The allocator is the first
+// parameter of whatever allocates, here as in the library, and never a field.
 pub fn completions<T: Task>(
     heap: Global,
     task: &T,
@@ -66,7 +66,7 @@ pub fn completions<T: Task>(
     ensures { IfOk result (λ v. AllOf Before (Completes (T.Task.meaning task.now) state price) (plans_of v)) }
 {
     let mut plans = empty_if_done(heap, task, state, price)?;
-    for (operator, target) in Moves::of(task, state) {
+    for (operator, target) in Moves::new(task, state) {
         let cost = task.cost(operator);
         if cost <= price {
             let tails = completions(heap, task, target, price - cost)?;

@@ -16,7 +16,7 @@ pub struct Moves<'a, T> {
 
 impl<'a, T: Task> Moves<'a, T> {
     // All moves of the state.
-    pub fn of(task: &'a T, state: u64) -> Moves<'a, T>
+    pub fn new(task: &'a T, state: u64) -> Moves<'a, T>
         ensures lent { result.task.now ≡ task.now }
         ensures state { result.state ≡ state }
         ensures all { result.from ≡ 0 }

@@ -1,14 +1,14 @@
 -- A task without one of its operators: its plans. Assumes nothing.
-use Rattle.std.proofs.Common.{◌≡◌, ℕ, List, [], ◌∷◌, Some, sym, refl, inl, inr, ⊎_elim, arith, ne_eqb}
+use Rattle.std.proofs.Common.{◌≡◌, ℕ, List, [], ◌∷◌, Some, sym, refl, inl, inr, ⊎_elim, ne_eqb}
 use borrow.Author.Tests.{eqb-false}
 use Rattle.task.specs.Listing.{In}
 use Rattle.task.specs.Model.{Model}
 use Rattle.task.specs.Plans.{follow}
-use Rattle.layers.specs.Theorems.{BarredPlans, BarredBeyond}
+use Rattle.layers.specs.Theorems.{BarredPlans}
 use Rattle.layers.specs.Barred.{barred}
 use Rattle.layers.specs.BarredLaws.{move_below}
 use Rattle.task.proofs.Models.{came_on}
-use Rattle.layers.proofs.Following.{goes_on, used_below, same_price}
+use Rattle.layers.proofs.Following.{goes_on, same_price}
 
 -- a move below of another operator is left
 pub move_left : (m : Model) (o s p t : ℕ) → (p ≡ o → ⊥) → m.move s p ≡ Some t → (barred o m).move s p ≡ Some t
@@ -33,7 +33,3 @@ way_left m o s t (p ∷ os) e n =
 pub barred_plans : BarredPlans
 barred_plans m o os =
     ((λ p. let w = way_below m o m.start p.0 os p.1 in ((p.0, w.0, p.2), w.1), λ p. (p.0.0, way_left m o m.start p.0.0 os p.0.1 p.1, p.0.2)), same_price (barred o m) m (λ p. refl) os)
-
-pub barred_beyond : BarredBeyond
-barred_beyond m l o h os =
-    (λ p. ((barred_plans m o os).0.0 p).0, λ p. (barred_plans m o os).0.1 (p, λ i. omega (arith, used_below m l o os m.start p.0 p.1 i)))

@@ -50,7 +50,7 @@ required_lawful o m fits l =
       consistent = λ s p w e. l.consistent (s / 2) p (w / 2) (move_below m o s p w e).0;
     }
 
--- what is made keeps the laws
+-- the laws of what is made, told of the task below alone: what is made is lawful
 pub made_lawful : (o : ℕ) (m : Model) → Lawful m → Lawful (required_made o m)
 made_lawful o m l = go (leb m.span (2 ^ 61)) refl
   where
@@ -58,7 +58,7 @@ made_lawful o m l = go (leb m.span (2 ^ 61)) refl
     go true h = required_lawful o m (leb-true m.span (2 ^ 61) h) l
     go false h = nothing_lawful
 
--- and names no operator that it lacks
+-- told of the task below alone too: what is made names no operator that it lacks
 pub made_nameless : (o : ℕ) (m : Model) (n : Names) → ((p : ℕ) → m.operators ≤ p → n.name p ≡ []) → (p : ℕ) → (required_made o m).operators ≤ p → (where_doubled m n no_names).name p ≡ []
 made_nameless o m n h = go (leb m.span (2 ^ 61))
   where

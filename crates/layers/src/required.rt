@@ -59,6 +59,7 @@ impl<'a, T: Task> Required<'a, T> {
     }
 }
 
+// By hand: over one implementation for every `Option` of a task, each of these calls would stand here all the same.
 impl<T: Task> Task for Required<'_, T> {
     ghost use Rattle.layers.specs.Layers.{required_meaning};
     ghost use Rattle.layers.specs.RequiredLaws.{over_lawful};
@@ -112,10 +113,9 @@ impl<T: NamedTask> NamedTask for Required<'_, T> {
     ghost nameless = { λ r. over_nameless r.operator T.Task.meaning T.NamedTask.names T.NamedTask.nameless r.below };
 
     fn name(&self, operator: u32) -> &[u8] {
-        match self.below {
-            Some(task) => task.name(operator),
-            None => &[],
-        }
+        self.below
+            .map(|task| task.name(operator))
+            .unwrap_or_default()
     }
 
     fn unit_cost(&self) -> bool {

@@ -27,6 +27,7 @@ impl<'a> SasTask<'a> {
     }
 }
 
+// By hand: over one implementation of Task for every `Option` of a task, each of these calls would stand there all the same.
 impl Task for SasTask<'_> {
     ghost meaning = { task_meaning };
 
@@ -71,10 +72,7 @@ impl NamedTask for SasTask<'_> {
     ghost nameless = { task_nameless };
 
     fn name(&self, operator: u32) -> &[u8] {
-        match &self.in_use {
-            Some(task) => task.name(operator),
-            None => &[],
-        }
+        self.in_use.as_ref().map_or(&[], |task| task.name(operator))
     }
 
     fn unit_cost(&self) -> bool {

@@ -13,6 +13,7 @@ use arrayvec::ArrayVec;
 pub(crate) type Values = ArrayVec<u32, MOST_VARIABLES>;
 
 // The values of the variables in the state.
+#[tactic(auto, using(crate::proofs::Walks::size_positive))]
 pub(crate) fn decode(variables: &[Variable], state: u64) -> Values
     requires few { length variables.now ≤ 60 }
     requires sized { Sized (sizes variables.now) }

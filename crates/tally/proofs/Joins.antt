@@ -24,10 +24,10 @@ module _ {V : Type 0} (y : Summary V) (laws : Lawful y) where
   joined_with_exchanges a b c =
       sym (joined_with_associates a b c) ∙ ap (λ d. joined_with y d c) (joined_with_commutes a b) ∙ joined_with_associates b a c
 
-  pub joined-append : AnyParts y
-  joined-append [] ws = refl
-  joined-append (v ∷ vs) ws =
-      ap (joined_with y (Some v)) (joined-append vs ws) ∙ sym (joined_with_associates (Some v) (joined y vs) (joined y ws))
+  pub joined_append : AnyParts y
+  joined_append [] ws = refl
+  joined_append (v ∷ vs) ws =
+      ap (joined_with y (Some v)) (joined_append vs ws) ∙ sym (joined_with_associates (Some v) (joined y vs) (joined y ws))
 
   -- what stood at j and x have changed places
   trades : (vs : List V) (j : ℕ) (x d : V) → j < length vs → joined_with y (Some (get_or vs j d)) (joined y (set vs j x)) ≡ joined_with y (Some x) (joined y vs)

@@ -7,6 +7,7 @@ ghost use Rattle.tally.specs.Theorems.{AnyOrder, AnyParts, Keeps};
 use crate::tallies::Tally;
 
 // The join of a list of values depends neither on their order nor on bracketing, whatever the tally.
+#[tactic(auto, using(crate::proofs::Joins::joined_shuffled, crate::proofs::Joins::joined_append))]
 pub fn joins_in_any_order<Y: Tally>(_tally: &Y)
     ensures order { AnyOrder (Y.meaning _tally.now) }
     ensures parts { AnyParts (Y.meaning _tally.now) }

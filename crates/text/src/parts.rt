@@ -4,7 +4,9 @@ ghost use Rattle.text.specs.Buffer.{after, fit, over, pieces, room_behind};
 
 use task::{Fault, Kind, Layer};
 
-// The room that the pieces leave behind them; refused where they are longer than the room.
+// The room that the pieces leave behind them; refused where they are longer than the room. By hand, here and
+// over the steps of a plan: without a heap the pieces of all steps cannot stand in one list, and a loop over
+// any iterator of pieces would have to say which pieces it yields.
 pub(crate) fn room_behind(parts: &[&[u8]], room: usize) -> Result<usize, Fault>
     ensures { result ≡ room_behind room (length (pieces parts.now)) }
 {

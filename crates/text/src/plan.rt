@@ -32,11 +32,9 @@ fn check_operators<T: Task>(task: &T, steps: &[u32]) -> Result<(), Fault>
     requires { length steps.now ≤ 65535 }
     ensures { result ≡ check_known (first_unknown (T.Task.meaning task.now).operators 0 steps.now) }
 {
-    // By hand: where there is a place, it is the refusal.
-    match first_unknown(task, steps) {
-        None => Ok(()),
-        Some(place) => Err(Layer::Text.fault(Kind::OutOfRange, place as u32)),
-    }
+    first_unknown(task, steps).map_or(Ok(()), |place| {
+        Err(Layer::Text.fault(Kind::OutOfRange, place as u32))
+    })
 }
 
 // The sum of the steps' costs.
@@ -65,7 +63,9 @@ fn step_pieces<'a, T: NamedTask>(task: &'a T, step: u32) -> [&'a [u8]; 3]
     [b"(", task.name(step), b")\n"]
 }
 
-// The room that the steps' lines leave behind them; refused where they are longer than the room.
+// The room that the steps' lines leave behind them; refused where they are longer than the room. By hand, as is
+// `put_steps`: without a heap the pieces of all steps cannot stand in one list, and a loop over any iterator
+// of pieces would have to say which pieces it yields.
 fn room_behind_steps<T: NamedTask>(task: &T, steps: &[u32], room: usize) -> Result<usize, Fault>
     ensures { result ≡ room_behind room (length (step_lines (T.NamedTask.names task.now) steps.now)) }
 {

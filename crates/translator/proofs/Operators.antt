@@ -10,17 +10,17 @@ use Rattle.translator.specs.Reads.{Read, keyword}
 use Rattle.translator.specs.Description.{Text, DescribedOperator, conditions_in, all_conditions}
 use Rattle.translator.specs.Filled.{ConditionsFilled, OperatorFilled, OperatorsFilled}
 use Rattle.translator.specs.Filling.{put, operator_record, operator_records}
-use Rattle.translator.specs.Sections.{text_line, conditions_section, cost_line, operator_section, next_operator, none_seen, repeated}
+use Rattle.translator.specs.Sections.{Noted, text_line, conditions_section, cost_line, operator_section, next_operator, none_seen, repeated}
 use Rattle.translator.proofs.Fills.{put_more, put_then}
 use Rattle.translator.proofs.Repeats.{repeat_on, repeat_fault, chain, stop}
 
 -- the lines of an operator, one after the other
-pub operator_read : (unit : Bool) (sizes : List ℕ) (room : ℕ) (p : Place) {q₁ q₂ q₃ q₄ q₅ q₆ : Place} {name : Text} {s t : List Condition × List Bool} {prevail cost : ℕ} {seen : List Bool} → keyword (codes "begin_operator") p ≡ Ok (tt, q₁) → text_line q₁ ≡ Ok (name, q₂) → conditions_section Fact sizes room none_seen q₂ ≡ Ok (s, q₃) → length s.0 ≡ prevail → s.1 ≡ seen → conditions_section Effect sizes (room - prevail) seen q₃ ≡ Ok (t, q₄) → cost_line unit q₄ ≡ Ok (cost, q₅) → keyword (codes "end_operator") q₅ ≡ Ok (tt, q₆) → operator_section unit sizes room p ≡ Ok (record { name = name; prevail = s.0; effects = t.0; cost = cost }, q₆)
+pub operator_read : (unit : Bool) (sizes : List ℕ) (room : ℕ) (p : Place) {q₁ q₂ q₃ q₄ q₅ q₆ : Place} {name : Text} {s t : List Condition × Noted} {prevail cost : ℕ} {seen : Noted} → keyword (codes "begin_operator") p ≡ Ok (tt, q₁) → text_line q₁ ≡ Ok (name, q₂) → conditions_section Fact room (none_seen sizes) q₂ ≡ Ok (s, q₃) → length s.0 ≡ prevail → s.1 ≡ seen → conditions_section Effect (room - prevail) seen q₃ ≡ Ok (t, q₄) → cost_line unit q₄ ≡ Ok (cost, q₅) → keyword (codes "end_operator") q₅ ≡ Ok (tt, q₆) → operator_section unit sizes room p ≡ Ok (record { name = name; prevail = s.0; effects = t.0; cost = cost }, q₆)
 operator_read unit sizes room p {q₃ = q₃} {q₄ = q₄} {s = s} {t = t} e₁ e₂ e₃ long noted e₄ e₅ e₆ =
-    let e₄' : conditions_section Effect sizes (room - length s.0) s.1 q₃ ≡ Ok (t, q₄) = subst₂ (λ k z. conditions_section Effect sizes (room - k) z q₃ ≡ Ok (t, q₄)) (sym long) (sym noted) e₄ in
+    let e₄' : conditions_section Effect (room - length s.0) s.1 q₃ ≡ Ok (t, q₄) = subst₂ (λ k z. conditions_section Effect (room - k) z q₃ ≡ Ok (t, q₄)) (sym long) (sym noted) e₄ in
     chain _ e₁ (chain _ e₂ (chain _ e₃ (chain _ e₄' (chain _ e₅ (chain _ e₆ refl)))))
 
-pub operator_filled : {first : ℕ} {old mid new : List Condition} {seen seen' : List Bool} {n l prevail effects : ℕ} {name : Text} {s t : List Condition × List Bool} (cost : ℕ) → name.place ≡ n → length name.letters ≡ l → ConditionsFilled first prevail old seen mid s → ConditionsFilled (first + prevail) effects mid seen' new t → OperatorFilled first old new (record { name = n; name_length = l; first = first; count = prevail + effects; cost = cost }) (record { name = name; prevail = s.0; effects = t.0; cost = cost })
+pub operator_filled : {first : ℕ} {old mid new : List Condition} {seen seen' : Noted} {n l prevail effects : ℕ} {name : Text} {s t : List Condition × Noted} (cost : ℕ) → name.place ≡ n → length name.letters ≡ l → ConditionsFilled first prevail old seen mid s → ConditionsFilled (first + prevail) effects mid seen' new t → OperatorFilled first old new (record { name = n; name_length = l; first = first; count = prevail + effects; cost = cost }) (record { name = name; prevail = s.0; effects = t.0; cost = cost })
 operator_filled {first} {old} {mid} {new} {prevail = prevail} {effects = effects} {s = s} {t = t} cost place long here there =
     let count : prevail + effects ≡ length (s.0 ++ t.0) = omega (arith, length-append s.0 t.0, here.long, there.long) in
     record {

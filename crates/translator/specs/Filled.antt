@@ -1,5 +1,5 @@
 -- What a pass over a part of the file leaves in the program's tables. Assumes nothing.
-use Rattle.std.specs.Prelude.{◌≡◌, ℕ, ◌+◌, ◌≤◌, Bool, List, ◌++◌, length}
+use Rattle.std.specs.Prelude.{◌≡◌, ℕ, ◌+◌, ◌≤◌, List, ◌++◌, length}
 use Rattle.sas.specs.declared.tables.Condition.{Condition}
 use Rattle.sas.specs.declared.tables.Operator.{Operator}
 use Rattle.sas.specs.declared.tables.Reading.{Reading}
@@ -7,6 +7,7 @@ use Rattle.sas.specs.declared.tables.Variable.{Variable}
 use Rattle.translator.specs.declared.stores.Room.{Room}
 use Rattle.translator.specs.Description.{DescribedVariable, DescribedOperator, Description, sizes_in, conditions_in, all_conditions}
 use Rattle.translator.specs.Filling.{put, variable_records, operator_record, operator_records, used_by}
+use Rattle.translator.specs.Sections.{Noted}
 
 -- the sizes of the variables are at hand, and their records stand
 pub record VariablesFilled (old : List Variable) (sizes : List ℕ) (new : List Variable) (vs : List DescribedVariable) : Type 0 where
@@ -14,7 +15,7 @@ pub record VariablesFilled (old : List Variable) (sizes : List ℕ) (new : List 
   pub laid : new ≡ put old 0 (variable_records vs)
 
 -- the conditions read stand from this place on, and their variables are noted
-pub record ConditionsFilled (first count : ℕ) (old : List Condition) (seen : List Bool) (new : List Condition) (s : List Condition × List Bool) : Type 0 where
+pub record ConditionsFilled (first count : ℕ) (old : List Condition) (seen : Noted) (new : List Condition) (s : List Condition × Noted) : Type 0 where
   pub noted : s.1 ≡ seen
   pub long : length s.0 ≡ count
   pub laid : new ≡ put old first s.0

@@ -64,9 +64,17 @@ next_variable vs p = and_then (variable_section (spanned (sizes_in vs)) p) (λ v
 abbrev pub known_variable : List ℕ → Place → Read ℕ
 known_variable sizes p = number_within 0 (length sizes - 1) BadNumber BadNumber p
 
--- one that has not been seen in this goal or operator
-abbrev pub fresh_variable : List ℕ → List Bool → Place → Read ℕ
-fresh_variable sizes seen p = and_then (known_variable sizes p) (λ v q. refuse_if (slice_index_or seen v false) VariableTwice q (Ok (v, q)))
+-- the sizes of the file's variables, and for each whether it has been seen in this goal or operator
+pub record Noted : Type 0 where
+  pub sizes : List ℕ
+  pub marks : List Bool
+
+abbrev pub none_seen : List ℕ → Noted
+none_seen ns = record { sizes = ns; marks = replicate 60 false }
+
+-- a variable that has not been seen
+abbrev pub fresh_variable : Noted → Place → Read ℕ
+fresh_variable seen p = and_then (known_variable seen.sizes p) (λ v q. refuse_if (slice_index_or seen.marks v false) VariableTwice q (Ok (v, q)))
 
 abbrev pub next_value : ℕ → Place → Read ℕ
 next_value size p = number_within 0 (size - 1) BadNumber BadNumber p
@@ -82,32 +90,29 @@ next_before size p = and_then (next_signed p) (λ z q. value_or_any size z q)
 abbrev pub asks : ℕ → ℕ → Condition
 asks v x = record { variable = v; before = Some x; after = None }
 
-abbrev pub fact_line : List ℕ → List Bool → Place → Read Condition
-fact_line sizes seen p = and_then (next_line p) (λ l q. and_then (fresh_variable sizes seen q) (λ v q. and_then (next_value (slice_index sizes v) q) (λ x q. and_then (line_end q) (λ e q. Ok (asks v x, q)))))
+abbrev pub fact_line : Noted → Place → Read Condition
+fact_line seen p = and_then (next_line p) (λ l q. and_then (fresh_variable seen q) (λ v q. and_then (next_value (slice_index seen.sizes v) q) (λ x q. and_then (line_end q) (λ e q. Ok (asks v x, q)))))
 
-abbrev pub effect_line : List ℕ → List Bool → Place → Read Condition
-effect_line sizes seen p =
-    and_then (next_line p) (λ l q. and_then (number_within 0 0 NotCarried NotCarried q) (λ k q. and_then (fresh_variable sizes seen q) (λ v q. and_then (next_before (slice_index sizes v) q) (λ b q. and_then (next_value (slice_index sizes v) q) (λ a q. and_then (line_end q) (λ e q. Ok (record { variable = v; before = b; after = Some a }, q)))))))
+abbrev pub effect_line : Noted → Place → Read Condition
+effect_line seen p =
+    and_then (next_line p) (λ l q. and_then (number_within 0 0 NotCarried NotCarried q) (λ k q. and_then (fresh_variable seen q) (λ v q. and_then (next_before (slice_index seen.sizes v) q) (λ b q. and_then (next_value (slice_index seen.sizes v) q) (λ a q. and_then (line_end q) (λ e q. Ok (record { variable = v; before = b; after = Some a }, q)))))))
 
--- the variables seen, with one more
-abbrev pub marked : List Bool → Condition → List Bool
-marked seen c = slice_set seen c.variable true
+-- the same with the condition's variable seen
+abbrev pub marked : Noted → Condition → Noted
+marked seen c = record { sizes = seen.sizes; marks = slice_set seen.marks c.variable true }
 
 -- a condition of this form, and the variables seen after it; a mutex group may name a variable again
-abbrev pub condition_line : Form → List ℕ → List Bool → Place → Read (Condition × List Bool)
-condition_line Mutex sizes seen p = and_then (fact_line sizes seen p) (λ c q. Ok ((c, seen), q))
-condition_line Fact sizes seen p = and_then (fact_line sizes seen p) (λ c q. Ok ((c, marked seen c), q))
-condition_line Effect sizes seen p = and_then (effect_line sizes seen p) (λ c q. Ok ((c, marked seen c), q))
+abbrev pub condition_line : Form → Noted → Place → Read (Condition × Noted)
+condition_line Mutex seen p = and_then (fact_line seen p) (λ c q. Ok ((c, seen), q))
+condition_line Fact seen p = and_then (fact_line seen p) (λ c q. Ok ((c, marked seen c), q))
+condition_line Effect seen p = and_then (effect_line seen p) (λ c q. Ok ((c, marked seen c), q))
 
-abbrev pub next_condition : Form → List ℕ → List Condition × List Bool → Place → Read (List Condition × List Bool)
-next_condition form sizes s p = and_then (condition_line form sizes s.1 p) (λ r q. Ok ((s.0 ++ r.0 ∷ [], r.1), q))
+abbrev pub next_condition : Form → List Condition × Noted → Place → Read (List Condition × Noted)
+next_condition form s p = and_then (condition_line form s.1 p) (λ r q. Ok ((s.0 ++ r.0 ∷ [], r.1), q))
 
 -- their number, which is at most room, and then the conditions
-abbrev pub conditions_section : Form → List ℕ → ℕ → List Bool → Place → Read (List Condition × List Bool)
-conditions_section form sizes room seen p = and_then (number_line 0 room OverLimit OverLimit p) (λ n q. repeated (next_condition form sizes) n ([], seen) q)
-
-abbrev pub none_seen : List Bool
-none_seen = replicate 60 false
+abbrev pub conditions_section : Form → ℕ → Noted → Place → Read (List Condition × Noted)
+conditions_section form room seen p = and_then (number_line 0 room OverLimit OverLimit p) (λ n q. repeated (next_condition form) n ([], seen) q)
 
 -- numbers are at most this
 abbrev pub unlimited : ℕ
@@ -115,7 +120,7 @@ unlimited = 4294967295
 
 abbrev pub mutex_section : List ℕ → Place → Read (List Condition)
 mutex_section sizes p =
-    and_then (keyword (codes "begin_mutex_group") p) (λ b q. and_then (conditions_section Mutex sizes unlimited none_seen q) (λ s q. and_then (keyword (codes "end_mutex_group") q) (λ e q. Ok (s.0, q))))
+    and_then (keyword (codes "begin_mutex_group") p) (λ b q. and_then (conditions_section Mutex unlimited (none_seen sizes) q) (λ s q. and_then (keyword (codes "end_mutex_group") q) (λ e q. Ok (s.0, q))))
 
 abbrev pub next_mutex : List ℕ → List (List Condition) → Place → Read (List (List Condition))
 next_mutex sizes gs p = and_then (mutex_section sizes p) (λ g q. Ok (gs ++ g ∷ [], q))
@@ -133,7 +138,7 @@ state_section sizes p =
 
 abbrev pub goal_section : List ℕ → ℕ → Place → Read (List Condition)
 goal_section sizes room p =
-    and_then (keyword (codes "begin_goal") p) (λ b q. and_then (conditions_section Fact sizes room none_seen q) (λ s q. and_then (keyword (codes "end_goal") q) (λ e q. Ok (s.0, q))))
+    and_then (keyword (codes "begin_goal") p) (λ b q. and_then (conditions_section Fact room (none_seen sizes) q) (λ s q. and_then (keyword (codes "end_goal") q) (λ e q. Ok (s.0, q))))
 
 abbrev pub cost_line : Bool → Place → Read ℕ
 cost_line true p = and_then (number_line 0 unlimited NotCarried OverLimit p) (λ n q. Ok (1, q))
@@ -141,7 +146,7 @@ cost_line false p = number_line 1 1000000 NotCarried OverLimit p
 
 abbrev pub operator_section : Bool → List ℕ → ℕ → Place → Read DescribedOperator
 operator_section unit sizes room p =
-    and_then (keyword (codes "begin_operator") p) (λ b q. and_then (text_line q) (λ name q. and_then (conditions_section Fact sizes room none_seen q) (λ s q. and_then (conditions_section Effect sizes (room - length s.0) s.1 q) (λ t q. and_then (cost_line unit q) (λ cost q. and_then (keyword (codes "end_operator") q) (λ e q. Ok (record { name = name; prevail = s.0; effects = t.0; cost = cost }, q)))))))
+    and_then (keyword (codes "begin_operator") p) (λ b q. and_then (text_line q) (λ name q. and_then (conditions_section Fact room (none_seen sizes) q) (λ s q. and_then (conditions_section Effect (room - length s.0) s.1 q) (λ t q. and_then (cost_line unit q) (λ cost q. and_then (keyword (codes "end_operator") q) (λ e q. Ok (record { name = name; prevail = s.0; effects = t.0; cost = cost }, q)))))))
 
 -- room is what the goal left
 abbrev pub next_operator : Bool → List ℕ → ℕ → List DescribedOperator → Place → Read (List DescribedOperator)

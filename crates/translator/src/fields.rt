@@ -20,10 +20,7 @@ pub(crate) struct Bounds {
 impl Bounds {
     // From 0 up to this number.
     pub(crate) fn up_to(high: usize, above: Kind) -> Bounds
-        ensures low { result.low ≡ 0 }
-        ensures high { result.high ≡ high }
-        ensures below { result.below ≡ above }
-        ensures above { result.above ≡ above }
+        ensures { result ≡ record { low = 0; high = high; below = above; above = above } }
     {
         Bounds {
             low: 0,
@@ -70,6 +67,7 @@ impl<'a> Reader<'a> {
         Ok((place, line.len() as u32))
     }
 
+    // The version of the format, which must be 3.
     pub(crate) fn version(&mut self) -> Result<(), Fault>
         ensures { Tells (λ v. tt) (version_section (place_of self.old)) result (place_of self.new) }
     {
@@ -106,10 +104,11 @@ impl<'a> Reader<'a> {
     }
 
     // The lines that name a variable's values.
+    // By hand: a loop that is handed its step would have to say in its contract what each step leaves of the reader.
     pub(crate) fn value_lines(&mut self, count: u32) -> Result<(), Fault>
         ensures { Finds (λ t v. Unit {0}) (repeated value_line count [] (place_of self.old)) result (place_of self.new) }
     {
-        for _at in 0..count {
+        for _ in 0..count {
             self.text_line()?;
         }
         Ok(())

@@ -101,7 +101,7 @@ impl<'a> Reader<'a> {
 }
 
 // Reads a translator file into the three tables: how much of them it takes. A file that is refused leaves
-// the tables as they were.
+// the tables as they were. By hand: the three tables are lent one by one, a rule of the project.
 pub fn read(
     bytes: &[u8],
     variables: &mut [Variable],

@@ -9,6 +9,7 @@ mod forms;
 mod lines;
 mod numerals;
 mod sections;
+mod seen;
 mod sizes;
 mod stores;
 mod variables;

@@ -33,6 +33,7 @@ pub fn numeral(digits: &[u8]) -> Option<u32>
 }
 
 // The same where -1, and no other number, may have a sign.
+// By hand: -1 and plain numbers are read by one signed reader, a rule of the project; each caller says what -1 means.
 pub(crate) fn signed(digits: &[u8]) -> Option<i64>
     ensures { result ≡ signed_in digits.now }
 {

@@ -8,6 +8,7 @@ ghost use Rattle.translator.specs.Sections.{repeated, mutex_section, next_mutex,
 use crate::cursor::Reader;
 use crate::fields::Bounds;
 use crate::forms::Form;
+use crate::seen::Seen;
 use crate::sizes::Sizes;
 use crate::stores::store;
 use sas::{Condition, Operator};
@@ -21,17 +22,18 @@ impl<'a> Reader<'a> {
     pub(crate) fn mutex_group(&mut self, sizes: &Sizes) -> Result<(), Fault>
         ensures { Finds (λ g u. Unit {0}) (mutex_section sizes.now.all.items (place_of self.old)) result (place_of self.new) }
     {
-        let mut seen = [false; 60];
+        let mut seen = Seen::new(sizes);
         self.keyword(b"begin_mutex_group")?;
-        self.condition_section(Form::Mutex, UNLIMITED, sizes, &mut seen, &mut [], 0)?;
+        self.condition_section(Form::Mutex, UNLIMITED, &mut seen, &mut [], 0)?;
         self.keyword(b"end_mutex_group")
     }
 
     // So many mutex groups.
+    // By hand: a loop that is handed its step would have to say in its contract what each step leaves of the reader.
     pub(crate) fn mutex_list(&mut self, count: u32, sizes: &Sizes) -> Result<(), Fault>
         ensures { Finds (λ gs u. Unit {0}) (repeated (next_mutex sizes.now.all.items) count [] (place_of self.old)) result (place_of self.new) }
     {
-        for _at in 0..count {
+        for _ in 0..count {
             self.mutex_group(sizes)?;
         }
         Ok(())
@@ -55,14 +57,15 @@ impl<'a> Reader<'a> {
         ensures tells { Finds (λ cs n. GoalFilled n table.old table.new cs) (goal_section sizes.now.all.items room (place_of self.old)) result (place_of self.new) }
         ensures within { IfOk result (λ n. n ≤ room) }
     {
-        let mut seen = [false; 60];
+        let mut seen = Seen::new(sizes);
         self.keyword(b"begin_goal")?;
-        let count = self.condition_section(Form::Fact, room, sizes, &mut seen, table, 0)?;
+        let count = self.condition_section(Form::Fact, room, &mut seen, table, 0)?;
         self.keyword(b"end_goal")?;
         Ok(count)
     }
 
     // The cost of an operator; 1 where every cost is read as 1.
+    // By hand: whether every cost is read as 1 is a value of the file, from its metric line, so it stays a flag.
     pub(crate) fn cost(&mut self, unit: bool) -> Result<u32, Fault>
         ensures { Tells (λ v. v) (cost_line unit (place_of self.old)) result (place_of self.new) }
     {
@@ -96,15 +99,14 @@ impl<'a> Reader<'a> {
         ensures tells { Finds (λ o v. OperatorFilled first table.old table.new v o) (operator_section unit sizes.now.all.items (room - first) (place_of self.old)) result (place_of self.new) }
         ensures within { IfOk result (λ v. first + v.count ≤ room) }
     {
-        let mut seen = [false; 60];
+        let mut seen = Seen::new(sizes);
         let left = room - first;
         self.keyword(b"begin_operator")?;
         let (name, name_length) = self.text_line()?;
-        let prevail = self.condition_section(Form::Fact, left, sizes, &mut seen, table, first)?;
+        let prevail = self.condition_section(Form::Fact, left, &mut seen, table, first)?;
         let effects = self.condition_section(
             Form::Effect,
             left - prevail,
-            sizes,
             &mut seen,
             table,
             first + prevail,

@@ -62,6 +62,7 @@ impl<'a> Reader<'a> {
     }
 
     // A value for each variable: the number of the state that has them.
+    // By hand: the sum is made while the lines are read, so that no list of values is kept.
     pub(crate) fn start_values(&mut self, sizes: &Sizes) -> Result<u64, Fault>
         ensures { Finds (λ vs n. n ≡ numbered sizes.now.all.items vs) (repeated (start_line sizes.now.all.items) (length sizes.now.all.items) [] (place_of self.old)) result (place_of self.new) }
     {

@@ -63,6 +63,8 @@ fn name_at<'a>(text: &'a [u8], ends: &[usize], operator: usize) -> &'a [u8]
     &text[start..ends[operator]]
 }
 
+// By hand: were every `Option` of a task a task itself, each of these calls would stand here all the same, to
+// pass it on.
 impl Task for Chart<'_> {
     ghost meaning = { task_meaning };
 
@@ -112,6 +114,8 @@ impl NamedTask for Chart<'_> {
     ghost nameless = { task_nameless };
 
     fn name(&self, operator: u32) -> &[u8] {
+        // By hand: in a closure after `filter`, what `name_at` asks of the ends was not proved; the check of
+        // borrows does not cover `map_or(&[], ..)` here.
         let operator = operator as usize;
         let Some(tables) = self.tables() else {
             return &[];

@@ -18,7 +18,7 @@ fn part<T>(elements: &[T], first: usize, count: usize) -> &[T]
 impl<'a> InUse<'a> {
     ghost use Rattle.std.specs.Prelude.{◌<◌};
     ghost use Rattle.std.specs.List.{slice_get};
-    ghost use Rattle.std.specs.Option.{option_copied, option_map};
+    ghost use Rattle.std.specs.Option.{IfSome, option_copied, option_map};
     ghost use Rattle.task.specs.Listing.{Each};
     ghost use Rattle.sas.specs.Actions.{changed};
     ghost use Rattle.sas.specs.Meaning.{sas_in};
@@ -29,29 +29,30 @@ impl<'a> InUse<'a> {
 
     // The values of the variables in the state.
     fn values(&self, state: u64) -> Values
-        ensures { result.items ≡ state_values (sizes self.now.variables.now) state }
+        ensures items { result.items ≡ state_values (sizes self.now.variables.now) state }
+        ensures count { length result.items ≡ length self.now.variables.now }
+        ensures below { Below (sizes self.now.variables.now) result.items }
     {
         decode(self.variables, state)
     }
 
     // What the operator asks and does, if there is one of that number.
     fn action(&self, operator: u32) -> Option<&'a [Condition]>
-        ensures { option_copied result ≡ option_map (λ a. a.conditions) (slice_get (sas_in self.now).actions operator) }
+        ensures fit { IfSome result (λ conditions. Each (ConditionFits (sizes self.now.variables.now)) conditions.now) }
+        ensures conditions { option_copied result ≡ option_map (λ a. a.conditions) (slice_get (sas_in self.now).actions operator) }
     {
         let operator = self.operators.get(operator as usize)?;
         Some(part(self.conditions, operator.first, operator.count))
     }
 
     // Whether there is an operator of that number and its conditions hold.
+    #[tactic(auto, using(crate::proofs::Scanned::fits_within))]
     fn acts(&self, values: &[u32], operator: u32) -> bool
         requires { length values.now ≡ length self.now.variables.now }
         ensures { result ≡ acts values.now (slice_get (sas_in self.now).actions operator) }
     {
-        // By hand: in a closure, what `holds` asks of the conditions was not proved.
-        match self.action(operator) {
-            Some(conditions) => holds(values, conditions),
-            None => false,
-        }
+        self.action(operator)
+            .is_some_and(|conditions| holds(values, conditions))
     }
 
     // The first operator numbered `from` or more whose conditions hold.
@@ -99,6 +100,7 @@ impl Task for InUse<'_> {
         self.start
     }
 
+    #[tactic(auto, using(crate::proofs::Scanned::fits_within))]
     fn is_goal(&self, state: u64) -> bool {
         state < self.span && holds(&self.values(state), self.goal)
     }
@@ -107,6 +109,7 @@ impl Task for InUse<'_> {
         (state < self.span).then_some(0)
     }
 
+    #[tactic(auto, using(crate::proofs::Scanned::fits_within))]
     fn step(&self, state: u64, operator: u32) -> Option<u64> {
         if state >= self.span {
             return None;
@@ -141,14 +144,16 @@ impl NamedTask for InUse<'_> {
     ghost nameless = { in_use_nameless };
 
     fn name(&self, operator: u32) -> &[u8] {
-        match self.operators.get(operator as usize) {
-            Some(operator) => part(
-                self.bytes,
-                operator.name as usize,
-                operator.name_length as usize,
-            ),
-            None => &[],
-        }
+        self.operators
+            .get(operator as usize)
+            .map(|operator| {
+                part(
+                    self.bytes,
+                    operator.name as usize,
+                    operator.name_length as usize,
+                )
+            })
+            .unwrap_or_default()
     }
 
     fn unit_cost(&self) -> bool {

@@ -9,6 +9,6 @@ returns-clause-tells c =
     let front = c.in_ok-prevail.ensures in
     let back = c.in_ok-effects.ensures in (
       _,
-      operator_read c.args.unit c.args.sizes.now.all.items (c.args.room - c.args.first) (place_of c.args.self.now) c.in_ok-keyword.ensures name.1 front.tells.1 front.tells.2.long front.tells.2.noted back.tells.1 c.in_ok-cost.ensures c.in_ok-keyword-2.ensures,
+      operator_read c.args.unit c.args.sizes.now.all.items (c.args.room - c.args.first) (place_of c.args.self.now) c.in_ok-keyword.ensures name.1 (rw c.new-seen.ensures at front.tells.1) front.tells.2.long front.tells.2.noted back.tells.1 c.in_ok-cost.ensures c.in_ok-keyword-2.ensures,
       operator_filled c.in_ok-cost.cost name.2.0 name.2.1 front.tells.2 back.tells.2,
     )

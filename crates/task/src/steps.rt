@@ -6,5 +6,9 @@ ghost use Rattle.task.specs.Order.{Earlier};
 pub fn earlier<'a>(first: &'a [u32], second: &'a [u32]) -> &'a [u32]
     ensures { Earlier first.entry second.entry result }
 {
-    if second < first { second } else { first }
+    if second.cmp(&first).is_lt() {
+        second
+    } else {
+        first
+    }
 }

@@ -79,7 +79,7 @@ same_actions bytes n cs (o ∷ os) e =
     ap (λ p. record { conditions = p; cost = o.cost } ∷ map (action_of (take n cs)) os) same ∙ ap (λ l. action_of cs o ∷ l) (same_actions bytes n cs os e.1)
 
 -- records that were cut from tables are in use of them
-module _ (t : Tables) (u : InUse) (k : Cut t u.variables.now u.operators.now u.conditions.now u.goal.now) (some : 1 ≤ length u.variables.now) (bytes : u.bytes.now ≡ t.bytes) (start : u.start ≡ t.used.start) (unit : u.unit_cost ≡ t.used.unit_cost) where
+module _ (t : Tables) (u : InUse) (k : Cut t u.variables.now u.operators.now u.conditions.now u.goal.now) (bytes : u.bytes.now ≡ t.bytes) (start : u.start ≡ t.used.start) (unit : u.unit_cost ≡ t.used.unit_cost) where
   sizes_same : sizes u.variables.now ≡ sizes_of t
   sizes_same = sizes_cut t _ _ _ _ k
 
@@ -91,7 +91,7 @@ module _ (t : Tables) (u : InUse) (k : Cut t u.variables.now u.operators.now u.c
       let variables = ap length k.variables.1 ∙ length-take-le t.used.variables t.variables k.variables.0 in
       let operators = ap length k.operators.1 ∙ length-take-le t.used.operators t.operators k.operators.0 in
       record {
-        variables = (omega (arith, some, variables), omega (arith, u.few_variables, variables), k.variables.0);
+        variables = (omega (arith, u.some_variables, variables), omega (arith, u.few_variables, variables), k.variables.0);
         operators = (omega (arith, u.few_operators, operators), k.operators.0);
         conditions = (omega (arith, k.goal.0, count_same), k.conditions.0);
         sizes = subst (Each (λ n. (1 ≤ n) × (n ≤ 1000))) sizes_same (sizes_in u).sizes;

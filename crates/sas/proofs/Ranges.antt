@@ -3,9 +3,9 @@ use Rattle.std.proofs.Common.{◌≡◌, ℕ, ◌+◌, ◌*◌, ◌^◌, ◌<◌
 use Rattle.std.specs.List.{list_all}
 use Rattle.std.specs.Option.{option_and_then}
 use Rattle.std.proofs.lemmas.Nat.{mul-le}
-use Rattle.std.proofs.lemmas.List.{at_drop_more}
+use Rattle.std.proofs.lemmas.List.{at_drop_more, at_drop_all}
 use Rattle.std.proofs.lemmas.Option.{same_Some}
-use Rattle.std.proofs.lemmas.Bool.{lt-leb, leb-true, leb-false}
+use Rattle.std.proofs.lemmas.Bool.{lt-leb, le-leb, leb-true, leb-false}
 use Rattle.task.proofs.Members.{each_weaker}
 use Rattle.sas.specs.declared.tables.Variable.{Variable}
 use Rattle.sas.specs.States.{spanned}
@@ -15,7 +15,7 @@ use Rattle.sas.specs.Assigned.{spanned_positive}
 use Rattle.sas.specs.Found.{decides_each, decides_size}
 use Rattle.sas.proofs.Walks.{no_variable}
 
-sized_from_each : (ns : List ℕ) → list_all size_fits ns ≡ true → Sized ns
+pub sized_from_each : (ns : List ℕ) → list_all size_fits ns ≡ true → Sized ns
 sized_from_each ns e = each_weaker (λ n. (1 ≤ n) × (n ≤ 1000)) (λ n. 1 ≤ n) (λ n p. p.0) ns ((decides_each size_fits _ decides_size ns).0 e)
 
 -- one size more is one step more
@@ -51,3 +51,16 @@ module _ (vars : List Variable) (i p : ℕ) (h : i < length vars) where
   pub product_more : (q : ℕ) → times p (get_or vars i no_variable).size ≡ Some q → (q ≤ 2 ^ 60) × (product q (sizes (drop (i + 1) vars)) ≡ product p (sizes (drop i vars)))
   product_more q e =
       (times_small p (get_or vars i no_variable).size q e, sym (product_here ∙ ap (option_and_then (λ q. product q (sizes (drop (i + 1) vars)))) e))
+
+  -- a size that fits is multiplied in
+  pub product_next : size_fits (get_or vars i no_variable).size ≡ true → product p (sizes (drop i vars)) ≡ product (p * (get_or vars i no_variable).size) (sizes (drop (i + 1) vars))
+  product_next e =
+      let n = (get_or vars i no_variable).size in
+      let ns = sizes (drop (i + 1) vars) in
+      at_drop_more (λ l. product p (sizes l)) vars i no_variable h
+      ∙ (ap (λ b. cond (b && list_all size_fits ns && leb (p * (n * spanned ns)) (2 ^ 60)) (Some (p * (n * spanned ns))) None) e ∙ ap (λ q. cond (list_all size_fits ns && leb q (2 ^ 60)) (Some q) None) (sym (mul_assoc p n (spanned ns))))
+
+pub product_all : (vars : List Variable) (i p : ℕ) → length vars ≤ i → p ≤ 2 ^ 60 → product p (sizes (drop i vars)) ≡ Some p
+product_all vars i p h l =
+    at_drop_all (λ l. product p (sizes l)) vars i h
+    ∙ (ap (λ q. cond (leb q (2 ^ 60)) (Some q) None) (mul-one p) ∙ ap (λ b. cond b (Some p) None) (le-leb p (2 ^ 60) l))

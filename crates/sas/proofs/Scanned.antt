@@ -17,6 +17,10 @@ use Rattle.sas.specs.Values.{Within, sizes}
 pub fits_within : (vars : List Variable) (vs : List ℕ) (cs : List Condition) → length vs ≡ length vars → Each (ConditionFits (sizes vars)) cs → Within (length vs) cs
 fits_within vars vs cs l f = λ k d h. omega (arith, l, length-map vars (λ v. v.size), (each_at (ConditionFits (sizes vars)) cs k d h f).known)
 
+-- the same for any sizes
+pub known_within : (ns : List ℕ) (n : ℕ) (cs : List Condition) → length ns ≡ n → Each (ConditionFits ns) cs → Within n cs
+known_within ns n cs l f = λ k d h. omega (arith, l, (each_at (ConditionFits ns) cs k d h f).known)
+
 -- the first number below n that acts is the first of all, where there are n operators
 pub first_of : (as' : List Action) (vs : List ℕ) (from n : ℕ) → n ≡ length as' → (r : Option ℕ) → MatchOption r ((o : ℕ) → from ≤ o → o < n → acts vs (slice_get as' o) ≡ false) (λ f. (from ≤ f) × (f < n) × (acts vs (slice_get as' f) ≡ true) × ((o : ℕ) → from ≤ o → o < f → acts vs (slice_get as' o) ≡ false)) → FirstActing as' vs from r
 first_of as' vs from n e None m =

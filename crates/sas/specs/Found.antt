@@ -15,7 +15,7 @@ pub decides_each : {A : Type 0} (p : A → Bool) (P : A → Type 0) → ((x : A)
 decides_each p P f [] = (λ e. tt, λ e. refl)
 decides_each p P f (x ∷ xs) = Decides-and (p x) (list_all p xs) (f x) (decides_each p P f xs)
 
-decides_leb : (a b : ℕ) → Decides (leb a b) (a ≤ b)
+pub decides_leb : (a b : ℕ) → Decides (leb a b) (a ≤ b)
 decides_leb a b = (leb-true a b, le-leb a b)
 
 pub decides_size : (n : ℕ) → Decides (size_fits n) ((1 ≤ n) × (n ≤ 1000))

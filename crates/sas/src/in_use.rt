@@ -1,5 +1,5 @@
 // What is in use of tables in range.
-ghost use Rattle.std.specs.Prelude.{◌≡◌, ◌<◌, ◌≤◌, IsTrue, Some, length};
+ghost use Rattle.std.specs.Prelude.{◌≡◌, ◌<◌, ◌≤◌, IsTrue, Some, length, take};
 ghost use Rattle.std.specs.List.{list_all};
 ghost use Rattle.sas.specs.Checks.{condition_fits, operator_fits, product};
 ghost use Rattle.sas.specs.Values.{sizes};
@@ -23,11 +23,13 @@ pub(crate) struct InUse<'a> {
     start: u64,
     span: u64,
     unit_cost: bool,
+    ghost some_variables: { 1 ≤ length variables.now },
     ghost few_variables: { length variables.now ≤ 60 },
     ghost few_operators: { length operators.now ≤ 4096 },
     ghost spans: { product 1 (sizes variables.now) ≡ Some span },
     ghost starts: { start < span },
     ghost conditions_fit: { IsTrue (list_all (condition_fits (sizes variables.now)) conditions.now) },
+    ghost goal_first: { goal.now ≡ take (length goal.now) conditions.now },
     ghost goal_fits: { IsTrue (list_all (condition_fits (sizes variables.now)) goal.now) },
     ghost operators_fit: { IsTrue (list_all (operator_fits (length bytes.now) (length conditions.now)) operators.now) },
 }

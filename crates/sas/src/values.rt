@@ -1,6 +1,6 @@
 // States as values: the values of the variables in a state, what conditions ask of them and do to them,
 // and the number of the state that has them.
-ghost use Rattle.std.specs.Prelude.{◌≡◌, ◌^◌, ◌<◌, ◌≤◌, length};
+ghost use Rattle.std.specs.Prelude.{◌≡◌, ◌^◌, ◌<◌, ◌≤◌, [], length};
 ghost use Rattle.sas.specs.Actions.{applies, renewed, changed};
 ghost use Rattle.sas.specs.States.{spanned, numbered, values as state_values};
 ghost use Rattle.sas.specs.Values.{Below, Sized, Within, sizes};
@@ -12,21 +12,20 @@ use arrayvec::ArrayVec;
 // A value for each variable. No heap is used for them.
 pub(crate) type Values = ArrayVec<u32, MOST_VARIABLES>;
 
-// The values of the variables in the state.
+// Puts the values of the variables in the state into an empty list.
 #[tactic(auto, using(crate::proofs::Walks::size_positive))]
-pub(crate) fn decode(variables: &[Variable], state: u64) -> Values
+pub(crate) fn decode(variables: &[Variable], state: u64, values: &mut Values)
     requires few { length variables.now ≤ 60 }
     requires sized { Sized (sizes variables.now) }
-    ensures { result.items ≡ state_values (sizes variables.now) state }
+    requires empty { values.old.items ≡ [] }
+    ensures { values.new.items ≡ state_values (sizes variables.now) state }
 {
-    let mut values = ArrayVec::new();
     let mut rest = state;
     for variable in variables {
         let size = u64::from(variable.size);
         values.push((rest % size) as u32);
         rest /= size;
     }
-    values
 }
 
 // The number of the state with these values.

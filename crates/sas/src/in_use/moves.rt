@@ -16,7 +16,7 @@ fn part<T>(elements: &[T], first: usize, count: usize) -> &[T]
 }
 
 impl<'a> InUse<'a> {
-    ghost use Rattle.std.specs.Prelude.{◌<◌};
+    ghost use Rattle.std.specs.Prelude.{◌<◌, []};
     ghost use Rattle.std.specs.List.{slice_get};
     ghost use Rattle.std.specs.Option.{IfSome, option_copied, option_map};
     ghost use Rattle.task.specs.Listing.{Each};
@@ -27,13 +27,14 @@ impl<'a> InUse<'a> {
     ghost use Rattle.sas.specs.Tables.{ConditionFits};
     ghost use Rattle.sas.specs.Values.{Below, sizes};
 
-    // The values of the variables in the state.
-    fn values(&self, state: u64) -> Values
-        ensures items { result.items ≡ state_values (sizes self.now.variables.now) state }
-        ensures count { length result.items ≡ length self.now.variables.now }
-        ensures below { Below (sizes self.now.variables.now) result.items }
+    // Puts the values of the variables in the state into an empty list.
+    fn decode(&self, state: u64, values: &mut Values)
+        requires { values.old.items ≡ [] }
+        ensures items { values.new.items ≡ state_values (sizes self.now.variables.now) state }
+        ensures count { length values.new.items ≡ length self.now.variables.now }
+        ensures below { Below (sizes self.now.variables.now) values.new.items }
     {
-        decode(self.variables, state)
+        decode(self.variables, state, values);
     }
 
     // What the operator asks and does, if there is one of that number.
@@ -102,7 +103,12 @@ impl Task for InUse<'_> {
 
     #[tactic(auto, using(crate::proofs::Scanned::fits_within))]
     fn is_goal(&self, state: u64) -> bool {
-        state < self.span && holds(&self.values(state), self.goal)
+        if state >= self.span {
+            return false;
+        }
+        let mut values = Values::new();
+        self.decode(state, &mut values);
+        holds(&values, self.goal)
     }
 
     fn estimate(&self, state: u64) -> Option<u64> {
@@ -115,7 +121,8 @@ impl Task for InUse<'_> {
             return None;
         }
         let conditions = self.action(operator)?;
-        let mut values = self.values(state);
+        let mut values = Values::new();
+        self.decode(state, &mut values);
         if holds(&values, conditions) {
             Some(self.reached(&mut values, conditions))
         } else {
@@ -128,7 +135,8 @@ impl Task for InUse<'_> {
         if state >= self.span {
             return None;
         }
-        let mut values = self.values(state);
+        let mut values = Values::new();
+        self.decode(state, &mut values);
         let operator = self.first_acting(&values, from)?;
         let conditions = self.action(operator)?;
         Some((operator, self.reached(&mut values, conditions)))

@@ -1,6 +1,6 @@
-use Rattle.std.proofs.Common.{◌≡◌, true, length, sym, refl, ◌∙◌, subst, arith}
+use Rattle.std.proofs.Common.{◌≡◌, true, sym, refl, ◌∙◌, subst, arith}
 use Rattle.std.specs.List.{list_all}
-use Rattle.std.proofs.lemmas.Bool.{false≢true, eqb-false}
+use Rattle.std.proofs.lemmas.Bool.{false≢true}
 use Rattle.std.proofs.lemmas.Option.{none-some, same_Some}
 use Rattle.sas.specs.Checks.{contents, condition_fits}
 use Rattle.sas.specs.Values.{sizes}
@@ -28,8 +28,7 @@ invariant_of-result-clause-goal_fits c =
 pub returns-then-operators_in_range : goal.returns-then-operators_in_range
 returns-then-operators_in_range c =
     let k = cut (goal.at.returns-then-operators_in_range c).In_ok-goal in
-    let filled = eqb-false (length c.in_ok-variables.variables.now) 0 (sym c.if-is_empty.ensures) in
-    cut_use (contents c.args.tables) _ k (omega (arith, filled)) refl refl refl
+    cut_use (contents c.args.tables) _ k refl refl refl
 
 pub returns-else-used-span : goal.returns-else-used-span
 returns-else-used-span c r =

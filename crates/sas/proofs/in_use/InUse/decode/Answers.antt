@@ -3,7 +3,7 @@ use Rattle.std.proofs.lemmas.List.{length-map}
 use Rattle.sas.specs.Assigned.{length-values, values_below}
 use Rattle.sas.specs.Makes.{in_use_fits}
 use Rattle.sas.specs.Values.{Below, sizes}
-use Rattle.sas.proofs.in_use.InUse.values.Goals as goal
+use Rattle.sas.proofs.in_use.InUse.decode.Goals as goal
 
 pub decode-requires-clause-sized : goal.decode-requires-clause-sized
 decode-requires-clause-sized c = (in_use_fits c.args.self.now).sized

@@ -1,9 +1,9 @@
 -- What tables without a fault answer. Assumes nothing.
-use Rattle.std.proofs.Common.{◌≡◌, ℕ, ◌≤◌, get_or, Some, None, refl, arith}
+use Rattle.std.proofs.Common.{◌≡◌, ℕ, ◌≤◌, length, get_or, Some, None, refl}
 use Rattle.task.proofs.Models.{no_state}
 use Rattle.chart.specs.Faults.{no_arc}
 use Rattle.chart.specs.Index.{NextArc}
-use Rattle.chart.specs.Lawful.{Passed, charted_lawful, lengths_known}
+use Rattle.chart.specs.Lawful.{Passed, charted_lawful}
 use Rattle.chart.specs.Meaning.{FirstOut}
 use Rattle.chart.specs.Tables.{Tables, charted}
 use Rattle.chart.proofs.Entries.{both_lead}
@@ -11,9 +11,8 @@ use Rattle.chart.proofs.Targets.{target_first}
 
 module _ (t : Tables) (p : Passed t) where
   -- no arc leads from a number that is no state
-  pub none_past : (s : ℕ) → 65536 ≤ s → (o : ℕ) → (charted t).move s o ≡ None
-  none_past s h o =
-      no_state (charted t) (charted_lawful t p) s o (omega (arith, (lengths_known t p.lengths).states.1))
+  pub none_past : (s : ℕ) → length t.goals ≤ s → (o : ℕ) → (charted t).move s o ≡ None
+  none_past s h o = no_state (charted t) (charted_lawful t p) s o h
 
   pub found_out : (s from j : ℕ) → NextArc t.arcs s from (Some j) → FirstOut ((charted t).move s) from (Some (get_or t.arcs j no_arc))
   found_out s from j n =

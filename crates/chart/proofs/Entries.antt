@@ -63,7 +63,7 @@ module _ (arcs : List Arc) (es : List Entry) (x : Indexed arcs es) where
     pub none_at_end : length es ≤ r → (o : ℕ) → from ≤ o → target arcs s o ≡ None
     none_at_end h o l = no_target s o (λ k m e f. omega (arith, not_below k o e f l))
 
-    none_elsewhere : r < length es → ((get_or es r no_entry).from ≡ s → ⊥) → (o : ℕ) → from ≤ o → target arcs s o ≡ None
+    pub none_elsewhere : r < length es → ((get_or es r no_entry).from ≡ s → ⊥) → (o : ℕ) → from ≤ o → target arcs s o ≡ None
     none_elsewhere h n o l =
         no_target s o (λ k m e f.
         let up = not_below k o e f l in
@@ -72,7 +72,7 @@ module _ (arcs : List Arc) (es : List Entry) (x : Indexed arcs es) where
         let same : (get_or es r no_entry).from ≡ s = grind (arith, nat_tests) in
         n same)
 
-    next_found : r < length es → (get_or es r no_entry).from ≡ s → NextArc arcs s from (Some (get_or es r no_entry).arc)
+    pub next_found : r < length es → (get_or es r no_entry).from ≡ s → NextArc arcs s from (Some (get_or es r no_entry).arc)
     next_found h at_state =
         ((facts r h).0, sym (facts r h).1 ∙ at_state, low, (λ k l. no_lead s (get_or arcs (get_or es r no_entry).arc no_arc).operator k (omega (arith, (facts r h).0)) (λ i m ea ef eo. earlier k l i m ea ef eo)), (λ o l m. no_target s o (λ k n ef eo. between o l m k n ef eo)))
       where

@@ -26,7 +26,7 @@ module _ (arcs : List Arc) (i : ℕ) (l : i < length arcs) where
   front : (k : ℕ) → k < i → get_or (take i arcs) k no_arc ≡ get_or arcs k no_arc
   front k h = get_or-take i arcs k no_arc h
 
-  new_never : NextArc arcs s o None → false ≡ new_arc arcs i
+  pub new_never : NextArc arcs s o None → false ≡ new_arc arcs i
   new_never n = absurd (some_target (n o (omega arith)))
 
   module _ (j : ℕ) (n : NextArc arcs s o (Some j)) where
@@ -49,7 +49,7 @@ module _ (arcs : List Arc) (i : ℕ) (l : i < length arcs) where
     before_first : i < j → eqb j i ≡ new_arc arcs i
     before_first h = absurd (both_ways (leads (get_or arcs i no_arc) s o) (none_earlier i h) itself)
 
-    new_first : eqb j i ≡ new_arc arcs i
+    pub new_first : eqb j i ≡ new_arc arcs i
     new_first = ⊎_elim at_first (λ c. ⊎_elim after_first before_first c) (cases_order j i)
 
   -- whether the first arc found is this one

@@ -48,7 +48,10 @@ impl<'a> Chart<'a> {
         ensures { FirstOut ((task_meaning self.now).move state) from result }
     {
         let held = self.held.as_ref()?;
-        let arc = held.next_arc(u32::try_from(state).ok()?, from)?;
+        if state >= held.fit.tables.goals.len() as u64 {
+            return None;
+        }
+        let arc = held.next_arc(state as u32, from)?;
         Some(held.fit.tables.arcs[arc])
     }
 }

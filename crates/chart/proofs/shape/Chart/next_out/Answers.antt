@@ -1,4 +1,4 @@
-use Rattle.std.proofs.Common.{◌≤◌, Some, None, get_or, sym, subst, rules}
+use Rattle.std.proofs.Common.{◌≤◌, length, Some, None, get_or, sym, subst, rules}
 use Rattle.chart.specs.Faults.{no_arc}
 use Rattle.chart.specs.Index.{NextArc}
 use Rattle.chart.specs.Makes.{made_passed}
@@ -7,13 +7,12 @@ use Rattle.chart.specs.Tables.{contents}
 use Rattle.chart.proofs.Charts.{found_out, none_past}
 use Rattle.chart.proofs.shape.Chart.next_out.Goals as goal
 
-pub returns-in_err-ok : goal.returns-in_err-ok
-returns-in_err-ok c =
+pub returns-then-state-held : goal.returns-then-state-held
+returns-then-state-held c =
     let h = c.in_ok-held.held.now in
-    let far : 65536 ≤ c.args.state = search rules in
-    let none = none_past (contents h.fit.tables) (made_passed c.args.self.now h (sym c.in_ok-held.ensures.value)) c.args.state far in
-    subst (FirstOut ((meaning_of c.args.self.now.held).move c.args.state) c.args.from) (sym c.from_residual-in_err-ok.ensures)
-    (subst (λ x. FirstOut ((meaning_of x).move c.args.state) c.args.from None) c.in_ok-held.ensures.value (λ o l. none o))
+    let past : length h.fit.tables.goals.now ≤ c.args.state = search rules in
+    let none = none_past (contents h.fit.tables) (made_passed c.args.self.now h (sym c.in_ok-held.ensures.value)) c.args.state past in
+    subst (λ x. FirstOut ((meaning_of x).move c.args.state) c.args.from None) c.in_ok-held.ensures.value (λ o l. none o)
 
 pub returns : goal.returns
 returns c =

@@ -1,8 +1,8 @@
 -- A task that asks for one of its operators: what is made of it, and its plans. Assumes nothing.
-use Rattle.std.proofs.Common.{◌≡◌, ℕ, ◌+◌, ◌*◌, ◌/◌, ◌%◌, ◌^◌, ◌<◌, ◌≤◌, Bool, true, false, cond, eqb, List, [], ◌∷◌, Some, sym, refl, ap, ◌∙◌, inl, inr, ⊎_elim, arith, eq-eqb, eqb-true, le-leb}
+use Rattle.std.proofs.Common.{◌≡◌, ℕ, ◌+◌, ◌*◌, ◌/◌, ◌%◌, ◌^◌, ◌<◌, ◌≤◌, Bool, true, false, cond, eqb, leb, List, [], ◌∷◌, Some, sym, refl, ap, ◌∙◌, inl, inr, ⊎_elim, arith, eq-eqb, eqb-true, le-leb, leb-true}
 use borrow.Author.Tests.{lt-leb}
 use Rattle.task.specs.Listing.{In}
-use Rattle.task.specs.Model.{Model}
+use Rattle.task.specs.Model.{Model, Lawful}
 use Rattle.task.specs.Nothing.{nothing}
 use Rattle.task.specs.Plans.{follow, Plan}
 use Rattle.layers.specs.Layers.{required_made}
@@ -11,6 +11,10 @@ use Rattle.layers.specs.Theorems.{RequiredPlans, RequiredBeyond}
 use Rattle.task.proofs.Models.{came_on}
 use Rattle.layers.specs.RequiredLaws.{mark_small, move_below, goal_below}
 use Rattle.layers.proofs.Following.{goes_on, used_below, same_price}
+
+-- where the span below can be doubled, so can every state that is reached
+pub target_small : (m : Model) (s p t : ℕ) → Lawful m → leb m.span (2 ^ 61) ≡ true → m.move s p ≡ Some t → t < 2 ^ 61
+target_small m s p t l h e = omega (arith, l.moves s p t e, leb-true m.span (2 ^ 61) h)
 
 -- a goal below is a goal with the mark
 pub goal_marked : (m : Model) (o t : ℕ) → m.goal t ≡ true → (required o m).goal (2 * t + 1) ≡ true

@@ -1,6 +1,5 @@
 -- What each layer means, over what the task below means. Assumes nothing.
-use Rattle.std.specs.Prelude.{ℕ, ◌^◌, cond, Ok, Err, Result, Some, None, Option, nat_le}
-use Rattle.std.specs.Borrow.{Bor}
+use Rattle.std.specs.Prelude.{ℕ, ◌^◌, cond, Ok, Err, Result, nat_le}
 use Rattle.task.specs.Model.{Model}
 use Rattle.task.specs.Names.{Names}
 use Rattle.task.specs.Nothing.{nothing, no_names}
@@ -26,21 +25,11 @@ where_doubled m x y = cond (nat_le m.span (2 ^ 61)) x y
 abbrev pub required_made : ℕ → Model → Model
 required_made o m = where_doubled m (required o m) nothing
 
--- the task that requires o, over the one that is held, or the empty task where none is
-abbrev pub required_over : {X : Type 0} → (X → Model) → ℕ → Option (Bor X) → Model
-required_over meaning o (Some t) = required o (meaning t.now)
-required_over meaning o None = nothing
+abbrev pub required_meaning : {X : Type 0} → (X → Model) → Required X → Model
+required_meaning meaning r = required_made r.operator (meaning r.below.now)
 
-abbrev pub required_meaning : {X : Type 0} {B : _} → (X → Model) → Required X B → Model
-required_meaning meaning r = required_over meaning r.operator r.below
-
--- the names of the task that is held, or none
-abbrev pub names_over : {X : Type 0} → (X → Names) → Option (Bor X) → Names
-names_over names (Some t) = names t.now
-names_over names None = no_names
-
-abbrev pub required_names : {X : Type 0} {B : _} → (X → Names) → Required X B → Names
-required_names names r = names_over names r.below
+abbrev pub required_names : {X : Type 0} → (X → Model) → (X → Names) → Required X → Names
+required_names meaning names r = where_doubled (meaning r.below.now) (names r.below.now) no_names
 
 -- the check before the making
 abbrev pub required_check : Model → Result (Unit {0}) Fault

@@ -1,11 +1,11 @@
 -- A task that asks for one of its operators keeps the laws, and so does what is made of it. Assumes nothing.
-use Rattle.std.proofs.Common.{◌≡◌, ℕ, ◌+◌, ◌*◌, ◌/◌, ◌%◌, ◌^◌, ◌<◌, ◌≤◌, Bool, true, false, cond, eqb, leb, [], None, Some, Option, IfSome, Bor, refl, ap, ◌∙◌, arith, eqb-true, leb-true}
+use Rattle.std.proofs.Common.{◌≡◌, ℕ, ◌+◌, ◌*◌, ◌/◌, ◌%◌, ◌^◌, ◌<◌, ◌≤◌, Bool, true, false, cond, eqb, leb, [], None, Some, Option, refl, ap, ◌∙◌, arith, eqb-true, leb-true}
 use Rattle.task.specs.Model.{Model, Lawful}
 use Rattle.task.specs.Names.{Names}
 use Rattle.task.specs.Nothing.{nothing, no_names}
 use Rattle.task.proofs.Models.{came_on}
 use Rattle.task.proofs.Nothing.{nothing_lawful}
-use Rattle.layers.specs.Layers.{where_doubled, required_made, required_over, names_over}
+use Rattle.layers.specs.Layers.{where_doubled, required_made}
 use Rattle.layers.specs.Required.{used_after, required}
 
 -- a mark stays below 2
@@ -50,7 +50,7 @@ required_lawful o m fits l =
       consistent = λ s p w e. l.consistent (s / 2) p (w / 2) (move_below m o s p w e).0;
     }
 
--- the laws of what is made, told of the task below alone: what is made is lawful
+-- what is made keeps the laws
 pub made_lawful : (o : ℕ) (m : Model) → Lawful m → Lawful (required_made o m)
 made_lawful o m l = go (leb m.span (2 ^ 61)) refl
   where
@@ -58,20 +58,10 @@ made_lawful o m l = go (leb m.span (2 ^ 61)) refl
     go true h = required_lawful o m (leb-true m.span (2 ^ 61) h) l
     go false h = nothing_lawful
 
--- told of the task below alone too: what is made names no operator that it lacks
+-- and names no operator that it lacks
 pub made_nameless : (o : ℕ) (m : Model) (n : Names) → ((p : ℕ) → m.operators ≤ p → n.name p ≡ []) → (p : ℕ) → (required_made o m).operators ≤ p → (where_doubled m n no_names).name p ≡ []
 made_nameless o m n h = go (leb m.span (2 ^ 61))
   where
     go : (b : Bool) → (p : ℕ) → (cond b (required o m) nothing).operators ≤ p → (cond b n no_names).name p ≡ []
     go true p k = h p k
     go false p k = refl
-
-module _ {X : Type 0} (o : ℕ) (meaning : X → Model) where
-  -- the same over the task that is held, whose span can be doubled, or over none
-  pub over_lawful : ((t : X) → Lawful (meaning t)) → (below : Option (Bor X)) → IfSome below (λ t. (meaning t.now).span ≤ 2 ^ 61) → Lawful (required_over meaning o below)
-  over_lawful lawful (Some t) fits = required_lawful o (meaning t.now) fits (lawful t.now)
-  over_lawful lawful None fits = nothing_lawful
-
-  pub over_nameless : (names : X → Names) → ((t : X) (p : ℕ) → (meaning t).operators ≤ p → (names t).name p ≡ []) → (below : Option (Bor X)) → (p : ℕ) → (required_over meaning o below).operators ≤ p → (names_over names below).name p ≡ []
-  over_nameless names nameless (Some t) p h = nameless t.now p h
-  over_nameless names nameless None p h = refl

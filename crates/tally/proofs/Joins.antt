@@ -1,10 +1,16 @@
 -- Joins of lists of values, for every tally that keeps its laws. Assumes nothing.
-use Rattle.std.proofs.Common.{◌≡◌, ℕ, zero, suc, ◌<◌, List, [], ◌∷◌, length, get_or, set, Some, None, Option, sym, refl, ap, ◌∙◌, arith}
+use Rattle.std.proofs.Common.{◌≡◌, ℕ, zero, suc, ◌+◌, ◌<◌, List, [], ◌∷◌, ◌++◌, map, length, get_or, take, set, Some, None, Option, sym, refl, ap, ◌∙◌, arith}
 use Rattle.std.specs.List.{fold, reduce, swap}
+use Rattle.std.proofs.lemmas.List.{take_more}
 use Rattle.std.proofs.lemmas.List.Sorted.{IsPermutation-keeps}
 use Rattle.tally.specs.Summary.{Summary, Lawful}
 use Rattle.tally.specs.Values.{joined_with, joined}
 use Rattle.tally.specs.Theorems.{AnyOrder, AnyParts}
+
+-- a value extended by o, if there is one
+abbrev pub extended_if : {V : Type 0} → Summary V → ℕ → Option V → Option V
+extended_if y o None = None
+extended_if y o (Some v) = Some (y.extend v o)
 
 module _ {V : Type 0} (y : Summary V) (laws : Lawful y) where
   pub joined_with_commutes : (a b : Option V) → joined_with y a b ≡ joined_with y b a
@@ -52,6 +58,26 @@ module _ {V : Type 0} (y : Summary V) (laws : Lawful y) where
   pub joined_shuffled : AnyOrder y
   joined_shuffled vs ws s =
       IsPermutation-keeps vs (λ l. joined y l ≡ joined y vs) refl (λ l i j h k e. joined_exchanged l i j h k ∙ e) ws s
+
+  -- one more value at the end
+  pub joined-push : (vs : List V) (v : V) → joined y (vs ++ v ∷ []) ≡ joined_with y (joined y vs) (Some v)
+  joined-push vs v = joined_append vs (v ∷ [])
+
+  -- one more value of a list, r being the join of those before it
+  pub joined_more : (vs : List V) (i : ℕ) (v : V) → i < length vs → v ≡ get_or vs i v → (r : Option V) → r ≡ joined y (take i vs) → joined_with y r (Some v) ≡ joined y (take (i + 1) vs)
+  joined_more vs i v h e r f =
+      ap (λ q. joined_with y q (Some v)) f ∙ sym (joined-push (take i vs) v) ∙ ap (λ w. joined y (take i vs ++ w ∷ [])) e ∙ ap (joined y) (sym (take_more vs i v h))
+
+  -- a join is extended value by value
+  joined_with-extended : (o : ℕ) (a b : Option V) → joined_with y (extended_if y o a) (extended_if y o b) ≡ extended_if y o (joined_with y a b)
+  joined_with-extended o None b = refl
+  joined_with-extended o (Some a) None = refl
+  joined_with-extended o (Some a) (Some b) = ap Some (sym (laws.distributes a b o))
+
+  pub joined-extended : (o : ℕ) (vs : List V) → joined y (map (λ v. y.extend v o) vs) ≡ extended_if y o (joined y vs)
+  joined-extended o [] = refl
+  joined-extended o (v ∷ vs) =
+      ap (joined_with y (Some (y.extend v o))) (joined-extended o vs) ∙ joined_with-extended o (Some v) (joined y vs)
 
   -- the library's reduce from first to last
   fold_is : (v : V) (vs : List V) → Some (fold y.join v vs) ≡ joined_with y (Some v) (joined y vs)

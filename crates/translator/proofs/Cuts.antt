@@ -1,5 +1,5 @@
 -- The first newline of a text, and the first space of a line. Assumes nothing.
-use Rattle.std.proofs.Common.{◌≡◌, ℕ, ◌+◌, ◌≤◌, Bool, true, false, cond, not, eqb, ltb, List, [], ◌∷◌, length, Some, None, position, unwrap_or, refl, arith}
+use Rattle.std.proofs.Common.{◌≡◌, ℕ, ◌+◌, ◌≤◌, Bool, true, false, cond, not, eqb, ltb, List, [], ◌∷◌, length, Some, None, position, unwrap_or, refl, ap, arith}
 use Rattle.std.specs.List.{position_or_len}
 use Rattle.std.proofs.lemmas.List.Sums.{prefix_len-le-length}
 use Rattle.std.proofs.lemmas.Bool.Decides.{nat_tests}
@@ -27,3 +27,12 @@ position_else_length p bs = go (position_or_len p bs) (prefix_len-le-length (λ 
   where
     go : (n : ℕ) → n ≤ length bs → unwrap_or (cond (ltb n (length bs)) (Some n) None) (length bs) ≡ n
     go n h = grind (arith, nat_tests)
+
+-- a line has a part
+pub some_part : (bs : List ℕ) → (w : List ℕ) × (ws : List (List ℕ)) × (cut bs ≡ w ∷ ws)
+some_part [] = ([], [], refl)
+some_part (b ∷ bs) = go (eqb b 32) (some_part bs)
+  where
+    go : (t : Bool) → ((w : List ℕ) × (ws : List (List ℕ)) × (cut bs ≡ w ∷ ws)) → (w : List ℕ) × (ws : List (List ℕ)) × (cond t ([] ∷ cut bs) (onto b (cut bs)) ≡ w ∷ ws)
+    go true s = ([], cut bs, refl)
+    go false s = (b ∷ s.0, s.1, ap (onto b) s.2)

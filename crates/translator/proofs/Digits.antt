@@ -1,5 +1,5 @@
 -- What a reader of digits goes by, and that what it reads is a decimal form. Assumes nothing.
-use Rattle.std.proofs.Common.{◌≡◌, ℕ, ◌+◌, ◌-◌, ◌*◌, ◌<◌, ◌≤◌, true, false, cond, not, ◌&&◌, eqb, ltb, leb, List, [], ◌∷◌, length, get_or, Some, None, decimal, Option, sym, refl, ap, ◌∙◌, ⊎_elim, arith}
+use Rattle.std.proofs.Common.{◌≡◌, ℕ, ◌+◌, ◌-◌, ◌*◌, ◌<◌, ◌≤◌, true, false, cond, not, ◌&&◌, eqb, ltb, leb, ◌⊎◌, List, [], ◌∷◌, length, get_or, drop, Some, None, decimal, Option, sym, refl, ap, ◌∙◌, ⊎_elim, arith}
 use Rattle.std.specs.Str.Parse.{digits_value_after, digits_value}
 use Rattle.std.specs.Char.{digit_value, is_ascii_digit}
 use Rattle.std.specs.Str.{all_ascii_digits}
@@ -7,7 +7,8 @@ use Rattle.std.proofs.lemmas.Bool.{lt-ltb, le-leb, lt-leb, leb-true, cond-true, 
 use Rattle.std.proofs.lemmas.Bool.Decides.{nat_tests}
 use Rattle.std.proofs.lemmas.Str.Parse.{IsNumeralModel, numerals_by_value, tells_all_ascii_digits}
 use Rattle.std.proofs.lemmas.Fmt.{decimal-digits_value, digits_decimal, digits_value-decimal, decimal_nonempty, first_decimal, decimal_digit}
-use Rattle.translator.specs.Numerals.{value_within, well_begun, number_in, Decimal}
+use Rattle.std.proofs.lemmas.List.{drop_more, drop_all}
+use Rattle.translator.specs.Numerals.{value_within, well_begun, number_in, Decimal, same}
 
 digit_of : (d : ℕ) → 48 ≤ d → d ≤ 57 → digit_value d ≡ d - 48
 digit_of d h k = grind (arith, nat_tests)
@@ -17,6 +18,11 @@ digit_more n d ds h k =
     let isDigit : is_ascii_digit d ≡ true = grind (arith, nat_tests) in
     ap (λ b. cond (b && all_ascii_digits ds && leb (digits_value_after 10 (n * 10 + digit_value d) ds) 4294967295) (Some (digits_value_after 10 (n * 10 + digit_value d) ds)) None) isDigit
     ∙ ap (λ v. value_within (n * 10 + v) ds) (digit_of d h k)
+
+pub no_digit : (n d : ℕ) (ds : List ℕ) → (d < 48) ⊎ (57 < d) → value_within n (d ∷ ds) ≡ None
+no_digit n d ds h =
+    let other : is_ascii_digit d ≡ false = grind (arith, nat_tests) in
+    ap (λ b. cond (b && all_ascii_digits ds && leb (digits_value_after 10 (n * 10 + digit_value d) ds) 4294967295) (Some (digits_value_after 10 (n * 10 + digit_value d) ds)) None) other
 
 grows : (n : ℕ) (ds : List ℕ) → n ≤ digits_value_after 10 n ds
 grows n [] = omega arith
@@ -33,6 +39,9 @@ value_over n ds h = none_over n ds (omega (arith, grows n ds))
 
 pub tenfold_over : (n d : ℕ) (ds : List ℕ) → 4294967295 < n * 10 → value_within n (d ∷ ds) ≡ None
 tenfold_over n d ds h = none_over n (d ∷ ds) (omega (arith, grows (n * 10 + digit_value d) ds))
+
+pub value_all : (n : ℕ) → n ≤ 4294967295 → value_within n [] ≡ Some n
+value_all n h = cond-true _ _ _ (le-leb n 4294967295 h)
 
 own : IsNumeralModel (λ ds. all_ascii_digits ds ≡ true) (digits_value 10)
 own = numerals_by_value _ tells_all_ascii_digits
@@ -84,3 +93,16 @@ module _ (ds : List ℕ) where
       go : (r : Option ℕ) → number_in ds ≡ r → Decimal ds r
       go None e = λ v h d. let z = decimal_read v h d in grind arith
       go (Some v) e = read_decimal v e
+
+-- two lists of other lengths are not the same
+pub not_same : (xs ys : List ℕ) → (length xs ≡ length ys → ⊥) → same xs ys ≡ false
+not_same [] [] h = absurd (h refl)
+not_same [] (y ∷ ys) h = refl
+not_same (x ∷ xs) [] h = refl
+not_same (x ∷ xs) (y ∷ ys) h = and_right (eqb x y) _ (not_same xs ys (λ e. h (omega arith)))
+
+pub same_more : (xs ys : List ℕ) (i : ℕ) → i < length xs → i < length ys → same (drop i xs) (drop i ys) ≡ (eqb (get_or xs i 0) (get_or ys i 0) && same (drop (i + 1) xs) (drop (i + 1) ys))
+same_more xs ys i h k = rw (drop_more xs i 0 h, drop_more ys i 0 k)
+
+pub same_all : (xs ys : List ℕ) (i : ℕ) → length xs ≤ i → length ys ≤ i → same (drop i xs) (drop i ys) ≡ true
+same_all xs ys i h k = rw (drop_all i xs h, drop_all i ys k)

@@ -1,12 +1,16 @@
 -- Tables that are filled record by record. Assumes nothing.
-use Rattle.std.proofs.Common.{◌≡◌, ℕ, ◌+◌, ◌≤◌, List, [], ◌∷◌, ◌++◌, length, take, drop, set, sym, ap, ◌∙◌, add-zero, arith}
+use Rattle.std.proofs.Common.{◌≡◌, ℕ, ◌+◌, ◌≤◌, List, [], ◌∷◌, ◌++◌, length, take, drop, set, sym, refl, ap, ◌∙◌, add-zero, arith}
 use Rattle.std.proofs.lemmas.List.{length-set, append_assoc, drop-set-lt, take_more_set, take-append-drop}
 use Rattle.translator.specs.Filling.{put}
 
 module _ {A : Type 0} where
-  put-append : (t : List A) (i : ℕ) (xs ys : List A) → put t i (xs ++ ys) ≡ put (put t i xs) (i + length xs) ys
+  pub put-append : (t : List A) (i : ℕ) (xs ys : List A) → put t i (xs ++ ys) ≡ put (put t i xs) (i + length xs) ys
   put-append t i [] ys = ap (λ k. put t k ys) (omega arith)
   put-append t i (x ∷ xs) ys = put-append (set t i x) (i + 1) xs ys ∙ ap (λ k. put (put (set t i x) (i + 1) xs) k ys) (omega arith)
+
+  pub length-put : (t : List A) (i : ℕ) (xs : List A) → length (put t i xs) ≡ length t
+  length-put t i [] = refl
+  length-put t i (x ∷ xs) = length-put (set t i x) (i + 1) xs ∙ length-set t i x
 
   -- one record more
   pub put_more : (t u : List A) (i : ℕ) (xs : List A) (x : A) → u ≡ put t i xs → set u (i + length xs) x ≡ put t i (xs ++ x ∷ [])

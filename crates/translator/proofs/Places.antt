@@ -5,10 +5,14 @@ use Rattle.std.proofs.lemmas.Bool.{lt-ltb, le-ltb, cases_lt}
 use Rattle.sas.specs.Tables.{part}
 use Rattle.translator.specs.Lines.{cut, cut_at}
 use Rattle.translator.specs.Readers.{left_of}
+use Rattle.translator.proofs.Cuts.{some_part}
 
 module _ (bs : List ℕ) (p n : ℕ) (more : p < n) where
   left_cut : left_of bs p n ≡ cut (part bs p (n - 1 - p))
   left_cut = ap (λ b. cond b (cut (part bs p (n - 1 - p))) []) (lt-ltb p n more)
+
+  pub some_left : (w : List ℕ) × (ws : List (List ℕ)) × (left_of bs p n ≡ w ∷ ws)
+  some_left = let s = some_part (part bs p (n - 1 - p)) in (s.0, s.1, left_cut ∙ s.2)
 
   module _ (k : ℕ) (inside : n ≤ length bs) (within : k ≤ length (part bs p (n - 1 - p))) where
     long : length (part bs p (n - 1 - p)) ≡ n - 1 - p

@@ -1,12 +1,27 @@
 -- One plan behind what is written, and all of them. Assumes nothing.
-use Rattle.std.proofs.Common.{◌≡◌, ℕ, zero, suc, ◌+◌, ◌<◌, true, false, List, [], ◌∷◌, ◌++◌, length, Some, None, Ok, Err, Option, Result, Vec, map, take, vec_items, is_some, refl, arith, sym, ap, ◌∙◌}
+use Rattle.std.proofs.Common.{◌≡◌, ℕ, zero, suc, ◌+◌, ◌<◌, Bool, true, false, cond, ltb, List, [], ◌∷◌, ◌++◌, length, Some, None, Ok, Err, Option, Result, Vec, map, take, vec_items, is_some, refl, arith, sym, ap, ◌∙◌}
 use Rattle.std.specs.declared.alloc.Global.{Global}
 use Rattle.std.proofs.lemmas.List.{append_assoc, append-nil}
 use Rattle.task.specs.Model.{Model}
 use Rattle.task.specs.Names.{Names}
 use Rattle.task.specs.declared.faults.Fault.{Fault}
-use Rattle.text.specs.PlanText.{plan_text, answer}
+use Rattle.task.specs.declared.faults.Kind.TheVariants.{BufferShort}
+use Rattle.text.specs.Buffer.{text_fault, fit}
+use Rattle.text.specs.PlanText.{plan_text, answer, then, check_count, check_known, first_unknown}
 use Rattle.listing.specs.Outcome.{Written, in_front, texts, added, Added}
+
+-- an answer is the length of the text
+then_ok : (r s : Result (Unit {0}) Fault) (room long end : ℕ) → Ok end ≡ then r (then s (fit room long)) → end ≡ long
+then_ok (Ok u) (Ok v) room long end e = go (ltb room long) e
+  where
+    go : (b : Bool) → Ok end ≡ cond b (Err (text_fault BufferShort 0)) (Ok long) → end ≡ long
+    go true p = cc
+    go false p = cc
+then_ok (Ok u) (Err f) room long end e = cc
+then_ok (Err f) s room long end e = cc
+
+pub answer_length : (m : Model) (n : Names) (steps : List ℕ) (room end : ℕ) → Ok end ≡ answer m n steps room → end ≡ length (plan_text m n steps)
+answer_length m n steps room end e = then_ok (check_count steps) (check_known (first_unknown m.operators 0 steps)) room (length (plan_text m n steps)) end e
 
 -- a text in front of what follows
 abbrev pub behind : List ℕ → Written → Written

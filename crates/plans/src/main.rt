@@ -9,10 +9,20 @@ use std::process::ExitCode;
 use task::Fault;
 use text::write_refusal;
 
-// The input, or so much of it that it is seen to be too long.
+// The input, or so much of it that it is seen to be too long. By hand, and not by `read_to_end`: each read has room
+// for 4,096 bytes, so that a stream of packets loses none, and the read after the one that goes past 65,536 bytes is
+// made too, so that a stream that fails there ends the program before it writes.
 fn read_input(rt: &HostRuntime, heap: Global) -> io::Result<Vec<u8>> {
+    let mut input = rt.stdin();
     let mut bytes = Vec::new(heap);
-    rt.stdin().take(65_537).read_to_end(&mut bytes)?;
+    for _ in 0..65_537 {
+        let mut chunk = [0; 4096];
+        let count = input.read(&mut chunk)?;
+        if count == 0 || bytes.len() > 65_536 {
+            break;
+        }
+        bytes.extend_from_slice(&chunk[..count])?;
+    }
     Ok(bytes)
 }
 

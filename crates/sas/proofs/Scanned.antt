@@ -1,16 +1,17 @@
 -- The values of states, and what operators make of them. Assumes nothing.
-use Rattle.std.proofs.Common.{◌≡◌, ℕ, ◌<◌, ◌≤◌, true, false, List, length, Some, None, Option, ap, ⊎_elim, arith}
+use Rattle.std.proofs.Common.{◌≡◌, ℕ, ◌<◌, List, length, get_or, Some, ap, ◌∙◌, arith}
 use Rattle.std.specs.List.{slice_get}
-use Rattle.std.specs.Option.{MatchOption}
+use Rattle.std.specs.Option.{option_map}
 use Rattle.std.proofs.lemmas.List.{length-map}
-use Rattle.std.proofs.lemmas.Bool.{cases_lt}
-use Rattle.std.proofs.lemmas.Option.{slice_get_past}
+use Rattle.std.proofs.lemmas.Option.{slice_get-map, slice_get-get_or}
 use Rattle.task.specs.Listing.{Each}
 use Rattle.task.proofs.Members.{each_at}
+use Rattle.sas.specs.declared.in_use.InUse.{InUse}
 use Rattle.sas.specs.declared.tables.Variable.{Variable}
 use Rattle.sas.specs.declared.tables.Condition.{Condition}
-use Rattle.sas.specs.Sas.{Action, acts, FirstActing}
-use Rattle.sas.specs.Tables.{ConditionFits}
+use Rattle.sas.specs.declared.tables.Operator.{Operator}
+use Rattle.sas.specs.Meaning.{sas_in}
+use Rattle.sas.specs.Tables.{ConditionFits, action_of}
 use Rattle.sas.specs.Values.{Within, sizes}
 
 -- conditions that fit are of variables that have a value in vs
@@ -21,8 +22,7 @@ fits_within vars vs cs l f = λ k d h. omega (arith, l, length-map vars (λ v. v
 pub known_within : (ns : List ℕ) (n : ℕ) (cs : List Condition) → length ns ≡ n → Each (ConditionFits ns) cs → Within n cs
 known_within ns n cs l f = λ k d h. omega (arith, l, (each_at (ConditionFits ns) cs k d h f).known)
 
--- the first number below n that acts is the first of all, where there are n operators
-pub first_of : (as' : List Action) (vs : List ℕ) (from n : ℕ) → n ≡ length as' → (r : Option ℕ) → MatchOption r ((o : ℕ) → from ≤ o → o < n → acts vs (slice_get as' o) ≡ false) (λ f. (from ≤ f) × (f < n) × (acts vs (slice_get as' f) ≡ true) × ((o : ℕ) → from ≤ o → o < f → acts vs (slice_get as' o) ≡ false)) → FirstActing as' vs from r
-first_of as' vs from n e None m =
-    λ o h. ⊎_elim (λ l. m o h l) (λ l. ap (acts vs) (slice_get_past as' o (omega (arith, e, l)))) (cases_lt o n)
-first_of as' vs from n e (Some f) m = (m.0, m.2, m.3)
+-- the action of an operator that is there
+pub action_there : (u : InUse) (i : ℕ) (d : Operator) → i < length u.operators.now → slice_get (sas_in u).actions i ≡ Some (action_of u.conditions.now (get_or u.operators.now i d))
+action_there u i d l =
+    slice_get-map (action_of u.conditions.now) u.operators.now i ∙ ap (λ o. option_map (action_of u.conditions.now) o) (slice_get-get_or u.operators.now i d l)

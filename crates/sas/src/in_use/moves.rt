@@ -22,7 +22,7 @@ impl<'a> InUse<'a> {
     ghost use Rattle.task.specs.Listing.{Each};
     ghost use Rattle.sas.specs.Actions.{changed};
     ghost use Rattle.sas.specs.Meaning.{sas_in};
-    ghost use Rattle.sas.specs.Sas.{acts, FirstActing};
+    ghost use Rattle.sas.specs.Sas.{FirstActing};
     ghost use Rattle.sas.specs.States.{numbered, values as state_values};
     ghost use Rattle.sas.specs.Tables.{ConditionFits};
     ghost use Rattle.sas.specs.Values.{Below, sizes};
@@ -46,22 +46,21 @@ impl<'a> InUse<'a> {
         Some(part(self.conditions, operator.first, operator.count))
     }
 
-    // Whether there is an operator of that number and its conditions hold.
+    // The first operator numbered `from` or more whose conditions hold. By index: each operator costs one look, where
+    // `find` over the numbers asks at each of them whether there is such an operator.
     #[tactic(auto, using(crate::proofs::Scanned::fits_within))]
-    fn acts(&self, values: &[u32], operator: u32) -> bool
-        requires { length values.now ≡ length self.now.variables.now }
-        ensures { result ≡ acts values.now (slice_get (sas_in self.now).actions operator) }
-    {
-        self.action(operator)
-            .is_some_and(|conditions| holds(values, conditions))
-    }
-
-    // The first operator numbered `from` or more whose conditions hold.
     fn first_acting(&self, values: &[u32], from: u32) -> Option<u32>
         requires { length values.now ≡ length self.now.variables.now }
         ensures { FirstActing (sas_in self.now).actions values.now from result }
     {
-        (from..self.operators()).find(|operator| self.acts(values, *operator))
+        for at in from as usize..self.operators.len() {
+            let operator = self.operators[at];
+            let conditions = part(self.conditions, operator.first, operator.count);
+            if holds(values, conditions) {
+                return Some(at as u32);
+            }
+        }
+        None
     }
 
     // The number of the state that the conditions make of the values.

@@ -1,14 +1,25 @@
-use Rattle.std.proofs.Common.{◌≡◌, true, false, rules, tests}
+use Rattle.std.proofs.Common.{sym, ap, ◌∙◌, ⊎_elim, arith}
 use Rattle.std.specs.List.{slice_get}
-use Rattle.std.proofs.lemmas.Iterator.{first_from_Range}
+use Rattle.std.proofs.lemmas.Bool.{cases_lt}
+use Rattle.std.proofs.lemmas.List.{length-map}
+use Rattle.std.proofs.lemmas.Option.{slice_get_past}
+use Rattle.sas.specs.Actions.{applies}
 use Rattle.sas.specs.Meaning.{sas_in}
 use Rattle.sas.specs.Sas.{acts}
-use Rattle.sas.proofs.Scanned.{first_of}
+use Rattle.sas.specs.Tables.{action_of}
+use Rattle.sas.proofs.Scanned.{action_there}
 use Rattle.sas.proofs.in_use.InUse.first_acting.Goals as goal
+
+pub loop-at-preserved : goal.loop-at-preserved
+loop-at-preserved c =
+    let u = c.args.self.now in
+    let vs = c.args.values.now in
+    let stays = ap (λ cs. applies cs vs) (sym c.part-conditions.ensures) ∙ (sym c.holds.ensures ∙ c.if-holds.false) in
+    let here = ap (acts vs) (action_there u c.loop-at.at _ c.loop-at-test.true) ∙ stays in
+    λ o a b. ⊎_elim (λ l. c.loop-at.invariant o a l) (λ l. ap (λ n. acts vs (slice_get (sas_in u).actions n)) (omega (arith, b, l)) ∙ here) (cases_lt o c.loop-at.at)
 
 pub returns : goal.returns
 returns c =
-    let as' = (sas_in c.args.self.now).actions in
+    let u = c.args.self.now in
     let vs = c.args.values.now in
-    first_of as' vs c.args.from c.operators.result c.operators.ensures c.find.result
-    (first_from_Range _ _ _ _ (λ o. acts vs (slice_get as' o) ≡ true) (λ o. acts vs (slice_get as' o) ≡ false) c.find.ensures.ran (λ x q k. search (rules, tests)) (λ x q k. search (rules, tests)))
+    λ o a. ⊎_elim (λ l. c.loop-at.invariant o a l) (λ l. ap (acts vs) (slice_get_past (sas_in u).actions o (omega (arith, l, c.loop-at-test.false, length-map u.operators.now (action_of u.conditions.now))))) (cases_lt o c.loop-at.at)

@@ -23,6 +23,6 @@ pub known_within : (ns : List ℕ) (n : ℕ) (cs : List Condition) → length ns
 known_within ns n cs l f = λ k d h. omega (arith, l, (each_at (ConditionFits ns) cs k d h f).known)
 
 -- the action of an operator that is there
-pub action_there : (u : InUse) (i : ℕ) (d : Operator) → i < length u.operators.now → slice_get (sas_in u).actions i ≡ Some (action_of u.conditions.now (get_or u.operators.now i d))
-action_there u i d l =
+pub action_at : (u : InUse) (i : ℕ) (d : Operator) → i < length u.operators.now → slice_get (sas_in u).actions i ≡ Some (action_of u.conditions.now (get_or u.operators.now i d))
+action_at u i d l =
     slice_get-map (action_of u.conditions.now) u.operators.now i ∙ ap (λ o. option_map (action_of u.conditions.now) o) (slice_get-get_or u.operators.now i d l)

@@ -60,20 +60,27 @@ left_none ns vs b = record { below = b; sum = omega arith; span = omega (arith, 
 pub left_more : (ns vs ms us : List ℕ) (m v number weight : ℕ) → Left ns vs (m ∷ ms) (v ∷ us) number weight → Left ns vs ms us (number + weight * v) (weight * m)
 left_more ns vs ms us m v number weight left = record { below = left.below.1; sum = omega (arith, left.sum); span = mul_assoc weight m (spanned ms) ∙ left.span }
 
--- the variable and the value that are next
+-- the next value and the next size stay within the product of the sizes
+module _ (ns vs : List ℕ) (b : Below ns vs) (m : ℕ) (ms : List ℕ) (v : ℕ) (us : List ℕ) (number weight : ℕ) (left : Left ns vs (m ∷ ms) (v ∷ us) number weight) where
+  pub sum_below : number + weight * v < spanned ns
+  sum_below = omega (arith, left.sum, numbered_below ns vs b)
+
+  pub product_below : weight * m ≤ spanned ns
+  product_below =
+      let w = weight * m in
+      let grows : w * 1 ≤ w * spanned ms = mul-le w 1 w _ (omega arith) (spanned_positive ms (below_sized ms us left.below.1)) in
+      omega (arith, grows, mul-one w, mul_assoc weight m (spanned ms), left.span)
+
+-- the same of the variable and the value that are next
 module _ (ns vs : List ℕ) (b : Below ns vs) (s t : Zip (Iter Variable) (Iter ℕ)) (r : Option (Bor Variable × Bor ℕ)) (x : Bor Variable) (v : Bor ℕ) (e : r ≡ Some (x, v)) (z : zips fronts fronts s r t) (number weight : ℕ) (left : Left ns vs (sizes (iter_rest (zip_first s))) (iter_rest (zip_second s)) number weight) where
   here : Left ns vs (x.now.size ∷ sizes (iter_rest (zip_first t))) (v.now ∷ iter_rest (zip_second t)) number weight
   here = let m = Zip-more s t r (x, v) e z in subst₂ (λ ws us. Left ns vs (sizes ws) us number weight) m.0 m.1 left
 
   pub number_below : number + weight * v.now < spanned ns
-  number_below = omega (arith, here.sum, numbered_below ns vs b)
+  number_below = sum_below ns vs b _ _ _ _ number weight here
 
   pub weight_below : weight * x.now.size ≤ spanned ns
-  weight_below =
-      let w = weight * x.now.size in
-      let ms = sizes (iter_rest (zip_first t)) in
-      let grows : w * 1 ≤ w * spanned ms = mul-le w 1 w _ (omega arith) (spanned_positive ms (below_sized ms (iter_rest (zip_second t)) here.below.1)) in
-      omega (arith, grows, mul-one w, mul_assoc weight x.now.size (spanned ms), here.span)
+  weight_below = product_below ns vs b _ _ _ _ number weight here
 
 pub left_all : (ns vs : List ℕ) (rest : List Variable) (us : List ℕ) (number weight : ℕ) → (rest ≡ []) ⊎ (us ≡ []) → Left ns vs (sizes rest) us number weight → number ≡ numbered ns vs
 left_all ns vs [] us number weight e left = omega (arith, left.sum)

@@ -7,7 +7,7 @@ use Rattle.sas.specs.Actions.{applies}
 use Rattle.sas.specs.Meaning.{sas_in}
 use Rattle.sas.specs.Sas.{acts}
 use Rattle.sas.specs.Tables.{action_of}
-use Rattle.sas.proofs.Scanned.{action_there}
+use Rattle.sas.proofs.Scanned.{action_at}
 use Rattle.sas.proofs.in_use.InUse.first_acting.Goals as goal
 
 pub loop-at-preserved : goal.loop-at-preserved
@@ -15,7 +15,7 @@ loop-at-preserved c =
     let u = c.args.self.now in
     let vs = c.args.values.now in
     let stays = ap (λ cs. applies cs vs) (sym c.part-conditions.ensures) ∙ (sym c.holds.ensures ∙ c.if-holds.false) in
-    let here = ap (acts vs) (action_there u c.loop-at.at _ c.loop-at-test.true) ∙ stays in
+    let here = ap (acts vs) (action_at u c.loop-at.at _ c.loop-at-test.true) ∙ stays in
     λ o a b. ⊎_elim (λ l. c.loop-at.invariant o a l) (λ l. ap (λ n. acts vs (slice_get (sas_in u).actions n)) (omega (arith, b, l)) ∙ here) (cases_lt o c.loop-at.at)
 
 pub returns : goal.returns

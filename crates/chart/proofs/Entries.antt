@@ -1,5 +1,5 @@
 -- Entries in order, and what an index says of the arcs. Assumes nothing.
-use Rattle.std.proofs.Common.{◌≡◌, ℕ, ◌<◌, ◌≤◌, Bool, true, false, eqb, List, length, get_or, Some, None, sym, refl, ap, ◌∙◌, subst, ⊎_elim, arith}
+use Rattle.std.proofs.Common.{◌≡◌, ℕ, ◌+◌, ◌<◌, ◌≤◌, Bool, true, false, eqb, List, length, get_or, Some, None, sym, refl, ap, ◌∙◌, subst, ⊎_elim, arith}
 use Rattle.std.specs.Bool.{then_some}
 use Rattle.std.specs.List.Sorted.{IsPartitionedBy, IsPartitionPoint}
 use Rattle.std.proofs.lemmas.List.{get_or_default}
@@ -17,6 +17,9 @@ use Rattle.chart.proofs.Targets.{target_none}
 -- what stands no later than an entry before a place stands before it too
 pub before_earlier : (e f : Entry) (s o : ℕ) → in_order e f ≡ true → before f s o ≡ true → before e s o ≡ true
 before_earlier e f s o h k = grind (arith, nat_tests)
+
+pub before_later : (e f : Entry) (s o : ℕ) → in_order e f ≡ true → before e s o ≡ false → before f s o ≡ false
+before_later e f s o h k = grind (arith, nat_tests)
 
 pub both_lead : (a : Arc) (s o : ℕ) → a.from ≡ s → a.operator ≡ o → leads a s o ≡ true
 both_lead a s o e f = grind (arith, nat_tests)
@@ -102,6 +105,13 @@ module _ (arcs : List Arc) (es : List Entry) (x : Indexed arcs es) where
         go : (c : Bool) → eqb (get_or es r no_entry).from s ≡ c → NextArc arcs s from (then_some c (get_or es r no_entry).arc)
         go true f = next_found h (eqb-true (get_or es r no_entry).from s f)
         go false f = none_elsewhere h (λ g. grind (arith, nat_tests, f, g))
+
+module _ (es : List Entry) (u : Ordered es) (s o m : ℕ) where
+  pub all_before : m < length es → before (get_or es m no_entry) s o ≡ true → (k : ℕ) → k < m + 1 → before (get_or es k no_entry) s o ≡ true
+  all_before h e k l = before_earlier (get_or es k no_entry) (get_or es m no_entry) s o (u k m (omega arith) h) e
+
+  pub none_before : before (get_or es m no_entry) s o ≡ false → (k : ℕ) → m ≤ k → k < length es → before (get_or es k no_entry) s o ≡ false
+  none_before e k l h = before_later (get_or es m no_entry) (get_or es k no_entry) s o (u m k l h) e
 
 module _ (es : List Entry) (u : Ordered es) (s o : ℕ) where
   -- those before a state and an operator stand before the others

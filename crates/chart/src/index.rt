@@ -1,7 +1,7 @@
 // The index of a chart's arcs, searches in it, and the checks that compare records.
 ghost use Rattle.std.specs.Prelude.{◌≡◌, ◌<◌, length, IfOk};
 ghost use Rattle.chart.specs.Faults.{answered, new_arc, record_fault, repeat_fault};
-ghost use Rattle.chart.specs.Index.{Indexed, Listed, NextArc};
+ghost use Rattle.chart.specs.Index.{Bound, Indexed, Listed, NextArc, Ordered, before};
 ghost use Rattle.chart.specs.Tables.{contents};
 
 use crate::checks::{FitTables, check_each};
@@ -34,6 +34,32 @@ fn entries_of(heap: Global, fit: &FitTables) -> Result<Vec<Entry>, AllocError>
         .collect(heap)
 }
 
+// Whether the entry's state and operator stand before these.
+fn is_before(entry: Entry, state: u32, operator: u32) -> bool
+    ensures { result ≡ before entry state operator }
+{
+    (entry.from, entry.operator) < (state, operator)
+}
+
+// The place of the first entry that does not stand before the state and the operator. By hand: in a walk over the
+// moves of small charts the library's `partition_point` took up to twice the time.
+fn lower_bound(index: &[Entry], state: u32, operator: u32) -> usize
+    requires { Ordered index.now }
+    ensures { Bound index.now state operator result }
+{
+    let mut low = 0;
+    let mut high = index.len();
+    while low < high {
+        let middle = low + (high - low) / 2;
+        if is_before(index[middle], state, operator) {
+            low = middle + 1;
+        } else {
+            high = middle;
+        }
+    }
+    low
+}
+
 impl<'a> IndexedTables<'a> {
     // The tables with their index.
     pub fn of(heap: Global, fit: FitTables<'a>) -> Result<IndexedTables<'a>, AllocError>
@@ -49,7 +75,7 @@ impl<'a> IndexedTables<'a> {
         ensures { NextArc self.now.fit.tables.arcs.now state from result }
     {
         let entries = self.entries.as_slice();
-        let place = entries.partition_point(|entry| (entry.from, entry.operator) < (state, from));
+        let place = lower_bound(entries, state, from);
         let entry = entries.get(place)?;
         (entry.from == state).then_some(entry.arc as usize)
     }
